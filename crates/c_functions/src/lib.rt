@@ -111,11 +111,11 @@ pub extern "C" fn tb_cycle(
             }
         }
         let b = bus;
-        let a = c_ordinary::other_cycle(device, state, b, array, residue);
+        let a = c_operations::other_cycle(device, state, b, array, residue);
         return a;
     }
     let b = bus;
-    let a = c_ordinary::other_cycle(device, state, b, array, residue);
+    let a = c_operations::other_cycle(device, state, b, array, residue);
     a
 }
 

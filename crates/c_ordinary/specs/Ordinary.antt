@@ -8,11 +8,8 @@ use lib.Bits.{bitAnd}
 use Rattle.common.specs.Choice.{if_then_else_}
 use Rattle.units.specs.Units.{lentIn}
 use Rattle.device.specs.Parts.{unknownDevice, sizeOf}
-use Rattle.model_types.specs.declared.Phase.{Phase}
-use Rattle.model_levels.specs.Levels.{vppLow, badPins}
-use Rattle.model_types.specs.Phases.{isBusy, isSuspending}
-use Rattle.model_states.specs.States.{mostLeft}
-use Rattle.c_cycle.specs.Values.{deviceIn, pinsIn, phaseIn, noState, cycleIn}
+use Rattle.model_levels.specs.Levels.{badPins}
+use Rattle.c_cycle.specs.Values.{deviceIn, pinsIn}
 use Rattle.c_cycle.specs.declared.DeviceNumbers.{DeviceNumbers}
 use Rattle.c_cycle.specs.declared.StateNumbers.{StateNumbers}
 use Rattle.c_cycle.specs.declared.BusNumbers.{BusNumbers}
@@ -92,29 +89,6 @@ pub record Resting (n : StateNumbers) : Type 0 where
   pub low : n .status % 8 ≡ 0
   pub ready : n .status / 64 ≡ 2
 
--- the phase that a state's numbers name
-abbrev pub phaseOf : StateNumbers → Phase
-phaseOf n = phaseIn (n .phase) (n .data) (n .suspend)
-
--- the numbers of a proper state with an operation running that does not end with the next cycle
-pub record Running (d : DeviceNumbers) (n : StateNumbers) : Type 0 where
-  pub there : noState n ≡ false
-  pub busy : isBusy (phaseOf n) ≡ true
-  pub unheld : isSuspending (phaseOf n) ≡ false
-  pub mode : n .mode ≡ 1
-  pub low : n .status % 8 ≡ 0
-  pub unready : n .status / 64 ≡ 0
-  pub more : 1 < n .left
-  pub most : n .left ≤ mostLeft (deviceIn d) (phaseOf n)
-  pub inside : n .address < sizeOf (deviceIn d .part)
-
--- a read or an idle cycle while an operation goes on
-pub record Polling (d : DeviceNumbers) (n : StateNumbers) (b : BusNumbers) (len : ℕ) : Type 0 where
-  pub running : Running d n
-  pub ordinary : Ordinary d b len
-  pub unwritten : eqb (b .kind) 1 ≡ false
-  pub supplied : vppLow (deviceIn d .part) (cycleIn b .pins) ≡ false
-
 -- no data, and the state in another mode, status and phase
 abbrev pub quietAs : StateNumbers → ℕ → ℕ → ℕ → AnswerNumbers
 quietAs n m sr ph =
@@ -127,24 +101,6 @@ quietAs n m sr ph =
 -- a value, and the state as it was
 abbrev pub shownAs : StateNumbers → ℕ → AnswerNumbers
 shownAs n v = record { seen = 1; value = v; state = n }
-
--- what is seen, and the state with one cycle less to go
-abbrev pub countedAs : StateNumbers → ℕ → ℕ → AnswerNumbers
-countedAs n seen v =
-    record {
-      seen = seen;
-      value = v;
-      state = record {
-        mode = n .mode;
-        status = n .status;
-        phase = n .phase;
-        suspend = n .suspend;
-        left = n .left - 1;
-        «data» = n .data;
-        address = n .address;
-        wear = n .wear;
-      };
-    }
 
 -- a command that is known, by what it sets
 abbrev pub setsAs : ℕ → ℕ → ℕ → Commanded
@@ -166,11 +122,3 @@ commandedOf kind byte mode sr =
     else if eqb byte 0x20 then setsAs 1 sr 1
     else if eqb byte 0x40 then setsAs 1 sr 2
     else unsetAs
-
--- whether a poll gives data: a read does
-unfoldable pub seenIn : ℕ → ℕ
-seenIn kind = if eqb kind 0 then 1 else 0
-
--- what it gives: the status, or nothing
-unfoldable pub shownIn : ℕ → ℕ → ℕ
-shownIn kind sr = if eqb kind 0 then sr else 0

@@ -1,25 +1,12 @@
-// One bus cycle from numbers to numbers. An ordinary cycle of a device at rest, and a read or an idle cycle while an operation goes on, are
-// answered from the numbers; every other goes the typed way. The test of an ordinary cycle is sufficient and no more: what fails it is
-// judged by the rules, and by them alone. The caller makes the choice at rest itself (`tb_cycle`): the answer is then made where it goes.
+// An ordinary bus cycle of a device at rest, from numbers to numbers. The test of an ordinary cycle is sufficient and no more: what fails
+// it is judged by the rules, and by them alone. The caller makes the choice itself (`tb_cycle`): the answer is then made where it goes.
 use c_cycle::AnswerNumbers;
 use c_cycle::BusNumbers;
 use c_cycle::DeviceNumbers;
 use c_cycle::StateNumbers;
-use c_cycle::states::answer_out;
-use c_cycle::states::cycle_in;
-use c_cycle::states::device_in;
-use c_cycle::states::part_in;
-use c_cycle::states::pins_in;
-use c_cycle::states::state_in;
-use model_levels::vpp_low;
 ghost use mathlib.Core.Path.{_≡_};
-ghost use mathlib.Core.Bool.{true};
-ghost use Prim.Native.Nat.{_<_};
-ghost use Rattle.model_levels.specs.Levels.{vppLow};
-ghost use Rattle.c_cycle.specs.Values.{deviceIn, cycleIn};
-ghost use Rattle.c_cycle.specs.Answers.{cycled, arrayCycled};
-ghost use Rattle.c_ordinary.specs.Ordinary.{bytesFor, unitsFor, levelIn, ordinaryIn, restingIn, Running, Polling, quietAs, shownAs};
-ghost use Rattle.c_ordinary.specs.Ordinary.{countedAs, setsAs, unsetAs, commandedOf, seenIn, shownIn};
+ghost use Rattle.c_ordinary.specs.Ordinary.{bytesFor, unitsFor, levelIn, ordinaryIn, restingIn, quietAs, shownAs, setsAs, unsetAs};
+ghost use Rattle.c_ordinary.specs.Ordinary.{commandedOf};
 
 // What a command sets, and whether it is one of those that are known here.
 pub struct Commanded {
@@ -131,38 +118,6 @@ pub fn is_resting(n: StateNumbers) -> bool
     (n.status % 8 == 0) & (n.status / 64 == 2)
 }
 
-// An operation is running that does not end with the next cycle, in a proper state.
-fn is_running(d: DeviceNumbers, n: StateNumbers) -> bool
-    ensures { λ r. ⌜ (r ≡ true → Running d n) ⌝ }
-{
-    if n.mode != 1 {
-        return false;
-    }
-    if n.left < 2 {
-        return false;
-    }
-    if n.suspend != 0 {
-        return false;
-    }
-    if n.status % 8 != 0 {
-        return false;
-    }
-    if n.status / 64 != 0 {
-        return false;
-    }
-    let part = part_in(d.number, d.word);
-    if device::size(part) <= n.address as usize {
-        return false;
-    }
-    if n.phase == 3 {
-        return n.left <= d.program;
-    }
-    if n.phase != 4 {
-        return false;
-    }
-    (n.data == 0) & (n.left <= d.erase)
-}
-
 // No data, and the state at rest or with a second write awaited.
 pub fn quiet(n: StateNumbers, mode: u8, status: u8, phase: u8) -> AnswerNumbers
     ensures { λ r. ⌜ r ≡ quietAs n mode status phase ⌝ }
@@ -193,46 +148,6 @@ pub fn shown(n: StateNumbers, v: u16) -> AnswerNumbers
         value: v,
         state: n,
     }
-}
-
-// What is seen, and the state with one cycle less to go.
-fn counted(n: StateNumbers, seen: u8, v: u16) -> AnswerNumbers
-    requires { ⌜ 1 < n .left ⌝ }
-    ensures { λ r. ⌜ r ≡ countedAs n seen v ⌝ }
-{
-    let w = n.wear;
-    AnswerNumbers {
-        seen: seen,
-        value: v,
-        state: StateNumbers {
-            mode: n.mode,
-            status: n.status,
-            phase: n.phase,
-            suspend: n.suspend,
-            left: n.left - 1,
-            data: n.data,
-            address: n.address,
-            wear: w,
-        },
-    }
-}
-
-// The typed way.
-fn typed(
-    device: DeviceNumbers,
-    state: StateNumbers,
-    bus: BusNumbers,
-    array: &mut [u8],
-    residue: &[u8],
-) -> AnswerNumbers
-    ensures result { λ r. ⌜ r ≡ cycled device state bus (now (array .entry)) (now (residue .entry)) ⌝ }
-    ensures array_left { λ _. ⌜ now (array .exit) ≡ arrayCycled device state bus (now (array .entry)) (now (residue .entry)) ⌝ }
-{
-    let d = device_in(device);
-    let s = state_in(state);
-    let c = cycle_in(bus);
-    let a = model::cycle(d, s, c, array, residue);
-    answer_out(state, a)
 }
 
 // A command that is known here, by what it sets.
@@ -288,67 +203,4 @@ pub fn command_of(kind: u8, byte: u16, mode: u8, status: u8) -> Commanded
         return sets(1, status, 2);
     }
     unset()
-}
-
-// Whether a poll gives data: a read does.
-fn seen_in(kind: u8) -> u8
-    ensures { λ r. ⌜ r ≡ seenIn kind ⌝ }
-{
-    if kind == 0 {
-        return 1;
-    }
-    0
-}
-
-// What it gives: the status, or nothing.
-fn shown_in(kind: u8, status: u8) -> u16
-    ensures { λ r. ⌜ r ≡ shownIn kind status ⌝ }
-{
-    if kind == 0 {
-        return units::wide(status);
-    }
-    0
-}
-
-// VPP is low, for the part that the numbers name.
-fn vpp_down(n: DeviceNumbers, b: BusNumbers) -> bool
-    ensures { λ r. ⌜ r ≡ vppLow (deviceIn n .part) (cycleIn b .pins) ⌝ }
-{
-    let part = part_in(n.number, n.word);
-    vpp_low(part, pins_in(b.rp, b.wp, b.vpp))
-}
-
-// A read or an idle cycle while an operation goes on: one cycle is counted off.
-fn is_poll(device: DeviceNumbers, state: StateNumbers, bus: BusNumbers, len: usize) -> bool
-    ensures { λ r. ⌜ (r ≡ true → Polling device state bus len) ⌝ }
-{
-    if bus.kind == 1 {
-        return false;
-    }
-    if 2 < bus.kind {
-        return false;
-    }
-    if is_running(device, state) {
-        if is_ordinary(device, bus, len) {
-            return !vpp_down(device, bus);
-        }
-    }
-    false
-}
-
-// Every cycle but an ordinary one at rest.
-pub fn other_cycle(
-    device: DeviceNumbers,
-    state: StateNumbers,
-    bus: BusNumbers,
-    array: &mut [u8],
-    residue: &[u8],
-) -> AnswerNumbers
-    ensures result { λ r. ⌜ r ≡ cycled device state bus (now (array .entry)) (now (residue .entry)) ⌝ }
-    ensures array_left { λ _. ⌜ now (array .exit) ≡ arrayCycled device state bus (now (array .entry)) (now (residue .entry)) ⌝ }
-{
-    if is_poll(device, state, bus, array.len()) {
-        return counted(state, seen_in(bus.kind), shown_in(bus.kind, state.status));
-    }
-    typed(device, state, bus, array, residue)
 }

@@ -1,45 +1,38 @@
 -- An ordinary cycle while an operation is running that has more than this cycle to go: one cycle is counted off, and a read gives the
 -- status.
 use mathlib.Core.Path.{_≡_, refl, sym, ap, _∙_}
-use mathlib.Core.Bool.{Bool, true, false, not}
+use mathlib.Core.Bool.{true, false, not}
 use mathlib.Core.List.{List}
 use Prim.Native.Nat.{ℕ, _-_, _/_, _%_, _≤_, _<_}
 use native.Mathlib.Omega.{arith}
 use lib.ListN.{length}
-use lib.Dec.{eqb, ltb, leb}
-use borrow.Author.Tests.{eqb-true, eqb-false, ne-eqb, lt-ltb, le-leb}
-use Rattle.common.specs.Choice.{if_then_else_}
-use Rattle.common.specs.Lists.{Bytes}
-use Rattle.common.proofs.Choice.{if-false, and-none, unlike}
-use Rattle.units.specs.Units.{units}
+use lib.Dec.{eqb}
+use borrow.Author.Tests.{ne-eqb, lt-ltb, le-leb}
+use Rattle.common.proofs.Choice.{and-none, unlike}
 use Rattle.device.specs.declared.Device.{Device}
 use Rattle.device.specs.Parts.{sizeOf}
-use Rattle.model_types.specs.declared.Kind.the-variants.{Read, Idle}
 use Rattle.model_types.specs.declared.Mode.the-variants.{Status}
 use Rattle.model_types.specs.declared.Phase.{Phase}
 use Rattle.model_types.specs.declared.Phase.the-variants.{Free, EraseAwaited, DataAwaited, Programming, Erasing, Suspending, Suspended}
+use Rattle.model_types.specs.declared.Action.the-variants.{Suspend}
 use Rattle.model_types.specs.declared.Effect.the-variants.{Nothing}
-use Rattle.model_types.specs.declared.Reply.{Reply}
-use Rattle.model_types.specs.declared.Reply.the-variants.{Quiet, Gives}
 use Rattle.model_types.specs.declared.State.{State}
 use Rattle.model_types.specs.declared.Cycle.{Cycle}
 use Rattle.model_levels.specs.Levels.{rpLow, vppLow}
 use Rattle.model_types.specs.Phases.{isAwaited, isBusy, isSuspending, isSuspended, isPending}
 use Rattle.model_states.specs.States.{proper, improper, mostLeft}
 use Rattle.model_operation.specs.Settling.{settledAs, settleOf, passedOf, countedOff}
+use Rattle.model_commands.specs.Commands.{actionOf, whileErasing}
 use Rattle.model_judge.specs.Judging.{shortResidue}
-use Rattle.model_rules.specs.Cycles.{decidedAs}
-use Rattle.model_rules.specs.Inner.{decideJudged}
-use Rattle.model.specs.Arrays.{seenOf}
-use Rattle.c_cycle.specs.Values.{deviceIn, modeIn, phaseIn, strayData, straySuspend, noState, wearIn, stateIn, stateOut, kindIn, cycleIn}
-use Rattle.c_cycle.specs.Answers.{stateBack, answerOut, cycled, arrayCycled}
+use Rattle.c_cycle.specs.Values.{deviceIn, modeIn, phaseIn, strayData, straySuspend, noState, wearIn, stateIn, stateOut, cycleIn}
 use Rattle.c_cycle.specs.declared.DeviceNumbers.{DeviceNumbers}
 use Rattle.c_cycle.specs.declared.StateNumbers.{StateNumbers}
 use Rattle.c_cycle.specs.declared.BusNumbers.{BusNumbers}
 use Rattle.c_cycle.proofs.Border.{state-numbers}
-use Rattle.c_ordinary.specs.Ordinary.{Ordinary, Running, phaseOf, countedAs, seenIn, shownIn}
+use Rattle.c_ordinary.specs.Ordinary.{Ordinary}
 use Rattle.c_ordinary.proofs.Passing.{Stands}
-use Rattle.c_ordinary.proofs.Passing as passing
+use Rattle.c_operations.specs.Operations.{Running, phaseOf, movedAs, pollAs, writeAs, seenIn, shownIn}
+use Rattle.c_operations.proofs.Moving.{Told, polls, writes}
 
 -- what is busy is an operation under way, not suspended, and awaits nothing
 pending : (ph : Phase) → isBusy ph ≡ true → (isPending ph ≡ true) × (isSuspended ph ≡ false) × (isAwaited ph ≡ false)
@@ -113,27 +106,19 @@ module _ (d : DeviceNumbers) (n : StateNumbers) (b : BusNumbers) (xs rs : List �
   stands : Stands d n b S T
   stands = record { typed = is-going d n r; good = is-proper d n r; enough = enough; settled = settled }
 
-  reads : b .kind ≡ 0 → decideJudged D S C ≡ decidedAs (Gives (n .status)) T Nothing
-  unfolding kindIn
-  reads e = passing.up-kind d n b xs rs o S T stands Read (passing.kind-is d n b xs rs o S T stands 0 e)
-
-  idles : b .kind ≡ 2 → decideJudged D S C ≡ decidedAs Quiet T Nothing
-  unfolding kindIn
-  idles e = passing.up-kind d n b xs rs o S T stands Idle (passing.kind-is d n b xs rs o S T stands 2 e)
-
-  goes-back : stateBack n T ≡ countedAs n 0 0 .state
-  unfolding stateBack
-  goes-back = if-false (noState n) n (stateOut T) (r .there) ∙ out-again d n r (n .left - 1)
-
-  -- for code: what is answered, and the array as it was, of what is no write
-  pub polled : eqb (b .kind) 1 ≡ false → (countedAs n (seenIn (b .kind)) (shownIn (b .kind) (n .status)) ≡ cycled d n b xs rs) × (Bytes xs → xs ≡ arrayCycled d n b xs rs)
-  unfolding seenIn shownIn
-  polled z = go (eqb (b .kind) 0) refl
+  -- for code: a poll
+  pub polled : eqb (b .kind) 1 ≡ false → Told d n b xs rs (movedAs n (pollAs n (b .kind) (n .status) (n .phase) (n .suspend) (n .left - 1)))
+  polled z =
+      let t = polls d n b xs rs o S T stands (r .there) refl z in
+      ((λ i. record { seen = seenIn (b .kind); value = shownIn (b .kind) (n .status); state = back i }) ∙ t .0, t .1)
     where
-      go : (t : Bool) → eqb (b .kind) 0 ≡ t → (countedAs n (if t then 1 else 0) (if t then n .status else 0) ≡ cycled d n b xs rs) × (Bytes xs → xs ≡ arrayCycled d n b xs rs)
-      go true e =
-          let f = reads (eqb-true (b .kind) 0 e) in
-          ((λ i. record { seen = 1; value = n .status; state = sym goes-back i }) ∙ passing.answered d n b xs rs o S T stands (Gives (n .status)) T f, passing.unwritten d n b xs rs o S T stands (Gives (n .status)) T f)
-      go false e =
-          let f = idles (omega (arith, o .kind, eqb-false (b .kind) 0 e, eqb-false (b .kind) 1 z)) in
-          ((λ i. record { seen = 0; value = 0; state = sym goes-back i }) ∙ passing.answered d n b xs rs o S T stands Quiet T f, passing.unwritten d n b xs rs o S T stands Quiet T f)
+      back : record { mode = 1; status = n .status; phase = n .phase; suspend = n .suspend; left = n .left - 1; «data» = n .data; address = n .address; wear = n .wear } ≡ stateOut T
+      back = (λ i. record { mode = sym (r .mode) i; status = n .status; phase = n .phase; suspend = n .suspend; left = n .left - 1; «data» = n .data; address = n .address; wear = n .wear }) ∙ sym (out-again d n r (n .left - 1))
+
+  -- for code: B0H while an erase is busy
+  pub suspends : b .kind ≡ 1 → n .phase ≡ 4 → b .data % 256 ≡ 0xB0 → Told d n b xs rs (movedAs n (writeAs 1 (n .status) 6 (d .suspend) (n .left - 1) 0 (n .address)))
+  unfolding phaseIn whileErasing
+  suspends k p e =
+      let erases : phaseOf n ≡ Erasing = simp p in
+      let asks : whileErasing (b .data % 256) ≡ Suspend = simp e in
+      writes d n b xs rs o S T stands (r .there) k Suspend (ap (λ (x : Phase). actionOf (D .part) x (b .data % 256)) erases ∙ asks) refl

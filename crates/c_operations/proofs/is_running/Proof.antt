@@ -1,4 +1,4 @@
--- `c_ordinary::is_running` meets its contract.
+-- `c_operations::is_running` meets its contract.
 use mathlib.Core.Path.{_≡_, sym, ap, _∙_}
 use Prim.Native.Nat.{_≤_, _<_}
 use native.Mathlib.Omega.{arith}
@@ -8,10 +8,10 @@ use Rattle.common.proofs.Choice.{and-left, and-right, unlike}
 use Rattle.device.specs.declared.Part.{Part}
 use Rattle.device.specs.Parts.{sizeOf}
 use Rattle.c_cycle.specs.Values.{deviceIn}
-use Rattle.c_ordinary.proofs.Running.{programming, erasing}
+use Rattle.c_operations.proofs.Running.{programming, erasing}
 use borrow.Author.Needs.{needs}
-use Rattle.c_ordinary.proofs.is_running.Statement.{statement}
-use Rattle.c_ordinary.proofs.is_running.Tie as tie
+use Rattle.c_operations.proofs.is_running.Statement.{statement}
+use Rattle.c_operations.proofs.is_running.Tie as tie
 
 returns : tie.Need-returns
 returns c = λ e. absurd (unlike (sym e))

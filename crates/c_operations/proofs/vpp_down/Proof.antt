@@ -1,9 +1,9 @@
--- `c_ordinary::vpp_down` meets its contract.
+-- `c_operations::vpp_down` meets its contract.
 use mathlib.Core.Path.{_∙_}
 use Rattle.model_levels.specs.Levels.{vppLow}
 use borrow.Author.Needs.{needs}
-use Rattle.c_ordinary.proofs.vpp_down.Statement.{statement}
-use Rattle.c_ordinary.proofs.vpp_down.Tie as tie
+use Rattle.c_operations.proofs.vpp_down.Statement.{statement}
+use Rattle.c_operations.proofs.vpp_down.Tie as tie
 
 part-in-requires : tie.Need-part-in-requires
 part-in-requires c κs = search needs

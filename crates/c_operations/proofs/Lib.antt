@@ -1,0 +1,5 @@
+pub mod Moving
+pub mod Running
+pub mod Holding
+pub mod Starting
+pub mod Unique
