@@ -45,7 +45,7 @@ pending (Suspending n) e = (refl, refl, refl)
 pending Suspended e = absurd (unlike (sym e))
 
 -- a program that is running, and an erase, by the numbers
-module _ (d : DeviceNumbers) (n : StateNumbers) (m : n .mode ≡ 1) (u : n .suspend ≡ 0) (l : n .status % 8 ≡ 0) (r : n .status / 64 ≡ 0) (k : 1 < n .left) (i : n .address < sizeOf (deviceIn d .part)) where
+module _ (d : DeviceNumbers) (n : StateNumbers) (m : n .mode ≡ 1) (u : n .suspend ≡ 0) (l : n .status % 8 ≡ 0) (r : n .status / 64 ≡ 0) (k : 0 < n .left) (i : n .address < sizeOf (deviceIn d .part)) where
   runs : noState n ≡ false → isBusy (phaseOf n) ≡ true → isSuspending (phaseOf n) ≡ false → n .left ≤ mostLeft (deviceIn d) (phaseOf n) → Running d n
   runs t b h q = record { there = t; busy = b; unheld = h; mode = m; low = l; unready = r; more = k; most = q; inside = i }
 
@@ -82,7 +82,7 @@ module _ (d : DeviceNumbers) (n : StateNumbers) (r : Running d n) where
       let e : stateOut (going (n .left)) ≡ n = ap stateOut (sym is-going) ∙ state-numbers n (r .there) in
       (λ i. record { mode = e i .mode; status = n .status; phase = e i .phase; suspend = e i .suspend; left = left; «data» = e i .data; address = n .address; wear = n .wear })
 
-module _ (d : DeviceNumbers) (n : StateNumbers) (b : BusNumbers) (xs rs : List ℕ) (o : Ordinary d b (length xs)) (r : Running d n) (v : vppLow (deviceIn d .part) (cycleIn b .pins) ≡ false) where
+module _ (d : DeviceNumbers) (n : StateNumbers) (b : BusNumbers) (xs rs : List ℕ) (o : Ordinary d b (length xs)) (r : Running d n) (v : vppLow (deviceIn d .part) (cycleIn b .pins) ≡ false) (m : 1 < n .left) where
   abbrev D : Device
   D = deviceIn d
 
@@ -101,7 +101,7 @@ module _ (d : DeviceNumbers) (n : StateNumbers) (b : BusNumbers) (xs rs : List �
 
   settled : settleOf (D .part) S (C .pins) ≡ settledAs T Nothing
   unfolding settleOf passedOf countedOff
-  settled = simp (o .up, v, r .busy, r .unheld, ne-eqb (n .left - 1) 0 (omega (arith, r .more)))
+  settled = simp (o .up, v, r .busy, r .unheld, ne-eqb (n .left - 1) 0 (omega (arith, m)))
 
   stands : Stands d n b S T
   stands = record { typed = is-going d n r; good = is-proper d n r; enough = enough; settled = settled }

@@ -6,13 +6,17 @@ use mathlib.Core.List.{List}
 use Prim.Native.Nat.{ℕ, _/_, _%_, _≤_, _<_}
 use lib.ListN.{length}
 use lib.Dec.{eqb}
+use lib.Bits.{bitOr}
 use Rattle.common.specs.Choice.{if_then_else_}
 use Rattle.common.specs.Lists.{Bytes}
+use Rattle.device.specs.declared.Part.{Part}
 use Rattle.device.specs.Parts.{sizeOf}
 use Rattle.model_types.specs.declared.Phase.{Phase}
+use Rattle.model_types.specs.declared.Effect.{Effect}
 use Rattle.model_levels.specs.Levels.{vppLow}
 use Rattle.model_types.specs.Phases.{isBusy, isSuspending}
 use Rattle.model_states.specs.States.{mostLeft}
+use Rattle.model_operation.specs.Settling.{finishOf}
 use Rattle.c_cycle.specs.Values.{deviceIn, phaseIn, noState, cycleIn}
 use Rattle.c_cycle.specs.Answers.{cycled, arrayCycled}
 use Rattle.c_cycle.specs.declared.DeviceNumbers.{DeviceNumbers}
@@ -26,7 +30,7 @@ use Rattle.c_operations.specs.declared.Moved.{Moved}
 abbrev pub phaseOf : StateNumbers → Phase
 phaseOf n = phaseIn (n .phase) (n .data) (n .suspend)
 
--- the numbers of a proper state with an operation running that does not end with the next cycle
+-- the numbers of a proper state with an operation running
 pub record Running (d : DeviceNumbers) (n : StateNumbers) : Type 0 where
   pub there : noState n ≡ false
   pub busy : isBusy (phaseOf n) ≡ true
@@ -34,9 +38,19 @@ pub record Running (d : DeviceNumbers) (n : StateNumbers) : Type 0 where
   pub mode : n .mode ≡ 1
   pub low : n .status % 8 ≡ 0
   pub unready : n .status / 64 ≡ 0
-  pub more : 1 < n .left
+  pub more : 0 < n .left
   pub most : n .left ≤ mostLeft (deviceIn d) (phaseOf n)
   pub inside : n .address < sizeOf (deviceIn d .part)
+
+-- a read or an idle cycle that ends an operation
+pub record Ending (d : DeviceNumbers) (n : StateNumbers) (b : BusNumbers) : Type 0 where
+  pub running : Running d n
+  pub last : n .left ≡ 1
+  pub unwritten : eqb (b .kind) 1 ≡ false
+
+-- what the end does to the array
+abbrev pub endIn : Part → StateNumbers → Effect
+endIn part n = finishOf (phaseOf n) part (n .address)
 
 -- the numbers of a proper state with a suspend under way
 pub record Suspending (d : DeviceNumbers) (n : StateNumbers) : Type 0 where
@@ -143,4 +157,22 @@ writeAs mode sr phase suspend left unit address =
       left = left;
       «data» = unit;
       address = address;
+    }
+
+-- what is seen of an end, and the state at rest: a read gives the status that is left
+abbrev pub endedAs : StateNumbers → ℕ → AnswerNumbers
+endedAs n kind =
+    record {
+      seen = seenIn kind;
+      value = shownIn kind (bitOr (n .status) 0x80);
+      state = record {
+        mode = 1;
+        status = bitOr (n .status) 0x80;
+        phase = 0;
+        suspend = 0;
+        left = 0;
+        «data» = 0;
+        address = 0;
+        wear = n .wear;
+      };
     }

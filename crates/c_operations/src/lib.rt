@@ -8,9 +8,13 @@ use c_cycle::states::answer_out;
 use c_cycle::states::cycle_in;
 use c_cycle::states::device_in;
 use c_cycle::states::part_in;
+use c_cycle::states::phase_in;
 use c_cycle::states::pins_in;
 use c_cycle::states::state_in;
 use c_ordinary::is_ordinary;
+use device::Part;
+use model_types::Effect;
+use model_types::Phase;
 use model_levels::locked;
 use model_levels::vpp_low;
 ghost use mathlib.Core.Path.{_≡_};
@@ -21,6 +25,10 @@ ghost use Rattle.model_levels.specs.Levels.{vppLow, locked};
 ghost use Rattle.c_cycle.specs.Values.{deviceIn, cycleIn};
 ghost use Rattle.c_cycle.specs.Answers.{cycled, arrayCycled};
 ghost use Rattle.c_operations.specs.Operations.{Running, Suspending, Suspended, Awaiting, Supplied, movedAs, Moves, unmovedAs};
+ghost use Rattle.c_operations.specs.Operations.{Ending, endIn, endedAs};
+ghost use Rattle.units.specs.Units.{units, spare};
+ghost use Rattle.model_operation.specs.Settling.{finishOf};
+ghost use Rattle.model.specs.Inner.{doneOf};
 ghost use Rattle.c_operations.specs.Operations.{pollAs, writeAs, seenIn, shownIn};
 
 // What is seen of a cycle, and what it leaves, where that is known here.
@@ -37,14 +45,14 @@ struct Moved {
     address: u32,
 }
 
-// An operation is running that does not end with the next cycle, in a proper state.
+// An operation is running, in a proper state.
 fn is_running(d: DeviceNumbers, n: StateNumbers) -> bool
     ensures { λ r. ⌜ (r ≡ true → Running d n) ⌝ }
 {
     if n.mode != 1 {
         return false;
     }
-    if n.left < 2 {
+    if n.left == 0 {
         return false;
     }
     if n.suspend != 0 {
@@ -304,6 +312,9 @@ fn poll_of(d: DeviceNumbers, n: StateNumbers, b: BusNumbers) -> Moved
     ensures { λ r. ⌜ (r .known ≡ true → eqb (b .kind) 1 ≡ false → Moves d n b r) ⌝ }
 {
     if is_running(d, n) {
+        if n.left == 1 {
+            return unmoved();
+        }
         return poll_leaves(n, b.kind, n.status, n.phase, n.suspend, n.left - 1);
     }
     if is_suspending(d, n) {
@@ -342,6 +353,9 @@ fn suspend_write(d: DeviceNumbers, n: StateNumbers, b: BusNumbers) -> Moved
         return unmoved();
     }
     if b.data % 256 != 0xB0 {
+        return unmoved();
+    }
+    if n.left == 1 {
         return unmoved();
     }
     if is_running(d, n) {
@@ -411,6 +425,77 @@ fn is_supplied(d: DeviceNumbers, b: BusNumbers, len: usize) -> bool
     false
 }
 
+// A read or an idle cycle that ends an operation.
+fn is_ending(d: DeviceNumbers, n: StateNumbers, b: BusNumbers) -> bool
+    ensures { λ r. ⌜ (r ≡ true → Ending d n b) ⌝ }
+{
+    if n.left != 1 {
+        return false;
+    }
+    if b.kind == 1 {
+        return false;
+    }
+    is_running(d, n)
+}
+
+// What an end does to the array.
+fn end_of(ph: Phase, part: Part, address: u32) -> Effect
+    ensures { λ r. ⌜ r ≡ finishOf ph part address ⌝ }
+{
+    match ph {
+        Phase::Free => Effect::Nothing,
+        Phase::EraseAwaited => Effect::Nothing,
+        Phase::DataAwaited => Effect::Nothing,
+        Phase::Programming(b) => Effect::Program(address, b),
+        Phase::Erasing => Effect::Erase(device::block_of(part, address)),
+        Phase::Suspending(_) => Effect::Nothing,
+        Phase::Suspended => Effect::Nothing,
+    }
+}
+
+// What is seen of an end, and the state at rest.
+fn ended(n: StateNumbers, kind: u8) -> AnswerNumbers
+    ensures { λ r. ⌜ r ≡ endedAs n kind ⌝ }
+{
+    let status = n.status | 0x80;
+    let w = n.wear;
+    AnswerNumbers {
+        seen: seen_in(kind),
+        value: shown_in(kind, status),
+        state: StateNumbers {
+            mode: 1,
+            status: status,
+            phase: 0,
+            suspend: 0,
+            left: 0,
+            data: 0,
+            address: 0,
+            wear: w,
+        },
+    }
+}
+
+// An end: the array, and what is seen.
+fn end_cycle(
+    d: DeviceNumbers,
+    n: StateNumbers,
+    kind: u8,
+    array: &mut [u8],
+    residue: &[u8],
+) -> AnswerNumbers
+    ensures result { λ r. ⌜ r ≡ endedAs n kind ⌝ }
+    ensures array_left { λ _. ⌜ units (deviceIn d .part .word) (now (array .exit))
+        ≡ doneOf (endIn (deviceIn d .part) n) (deviceIn d .part) (units (deviceIn d .part .word) (now (residue .entry)))
+        (units (deviceIn d .part .word) (now (array .entry))) ⌝ }
+    ensures array_spare { λ _. ⌜ spare (deviceIn d .part .word) (now (array .exit))
+        ≡ spare (deviceIn d .part .word) (now (array .entry)) ⌝ }
+{
+    let part = part_in(d.number, d.word);
+    let effect = end_of(phase_in(n.phase, n.data, n.suspend), part, n.address);
+    model::put(effect, part, array, residue);
+    ended(n, kind)
+}
+
 // Every cycle but an ordinary one at rest.
 pub fn other_cycle(
     device: DeviceNumbers,
@@ -426,6 +511,11 @@ pub fn other_cycle(
     if m.known {
         if is_supplied(device, bus, array.len()) {
             return answer_by(state, m);
+        }
+    }
+    if is_ending(device, state, bus) {
+        if is_supplied(device, bus, array.len()) {
+            return end_cycle(device, state, bus.kind, array, residue);
         }
     }
     typed(device, state, bus, array, residue)

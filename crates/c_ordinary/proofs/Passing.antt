@@ -53,6 +53,28 @@ pub record Stands (d : DeviceNumbers) (n : StateNumbers) (b : BusNumbers) (s t :
   pub enough : (k : ℕ) → shortResidue (deviceIn d .part) s (cycleIn b) k ≡ false
   pub settled : settleOf (deviceIn d .part) s (cycleIn b .pins) ≡ settledAs t Nothing
 
+-- an ordinary cycle of a state s that is proper, where no cut is to come that lacks its residue
+module _ (d : DeviceNumbers) (n : StateNumbers) (b : BusNumbers) (xs rs : List ℕ) (o : Ordinary d b (length xs)) (s : State) (typed : stateIn n ≡ s) (good : improper (deviceIn d) s ≡ false) (enough : (k : ℕ) → shortResidue (deviceIn d .part) s (cycleIn b) k ≡ false) where
+  abbrev part : Part
+  part = deviceIn d .part
+
+  oe-is : cycleIn b .oe ≡ 0
+  unfolding oeIn
+  oe-is = if-false (ltb 2 (b .kind)) 2 (b .oe) (le-ltb 2 (b .kind) (o .kind)) ∙ o .oe
+
+  levels : badLevels part (cycleIn b) ≡ false
+  unfolding badLevels
+  levels = simp (o .pins, ap (λ (x : ℕ). badOe part (cycleIn b .kind) x) oe-is ∙ oe-low part (cycleIn b .kind))
+
+  inside : pastArray part (cycleIn b) ≡ false
+  unfolding pastArray
+  inside = simp (lt-leb (sizeOf part) (b .address) (o .inside))
+
+  -- none of refusals 1 to 6 applies
+  pub passes : 0 ≡ judgeOf (deviceIn d) (stateIn n) (cycleIn b) (lentIn (part .word) (length xs)) (unitsIn (part .word) (length rs))
+  unfolding judgeOf
+  passes = simp (typed, o .known, o .sized, eq-eqb (sizeOf part) (sizeOf part) refl, good, levels, inside, enough (unitsIn (part .word) (length rs)))
+
 module _ (d : DeviceNumbers) (n : StateNumbers) (b : BusNumbers) (xs rs : List ℕ) (o : Ordinary d b (length xs)) (s t : State) (h : Stands d n b s t) where
   abbrev D : Device
   D = deviceIn d
@@ -63,22 +85,8 @@ module _ (d : DeviceNumbers) (n : StateNumbers) (b : BusNumbers) (xs rs : List �
   abbrev word : Bool
   word = D .part .word
 
-  oe-is : C .oe ≡ 0
-  unfolding oeIn
-  oe-is = if-false (ltb 2 (b .kind)) 2 (b .oe) (le-ltb 2 (b .kind) (o .kind)) ∙ o .oe
-
-  levels : badLevels (D .part) C ≡ false
-  unfolding badLevels
-  levels = simp (o .pins, ap (λ (x : ℕ). badOe (D .part) (C .kind) x) oe-is ∙ oe-low (D .part) (C .kind))
-
-  inside : pastArray (D .part) C ≡ false
-  unfolding pastArray
-  inside = simp (lt-leb (sizeOf (D .part)) (b .address) (o .inside))
-
-  -- none of refusals 1 to 6 applies
-  pub passes : 0 ≡ judgeOf D (stateIn n) C (lentIn word (length xs)) (unitsIn word (length rs))
-  unfolding judgeOf
-  passes = simp (h .typed, o .known, o .sized, eq-eqb (sizeOf (D .part)) (sizeOf (D .part)) refl, h .good, levels, inside, h .enough (unitsIn word (length rs)))
+  none-applies : 0 ≡ judgeOf D (stateIn n) C (lentIn word (length xs)) (unitsIn word (length rs))
+  none-applies = passes d n b xs rs o s (h .typed) (h .good) (h .enough)
 
   -- the answer where step 4 is known to change the state alone
   module _ (reply : Reply) (u : State) (e : decideJudged D s C ≡ decidedAs reply u Nothing) where
@@ -91,11 +99,11 @@ module _ (d : DeviceNumbers) (n : StateNumbers) (b : BusNumbers) (xs rs : List �
 
     pub answered : answerOut n (record { seen = seenOf reply (units word xs); state = u }) ≡ cycled d n b xs rs
     unfolding cycled
-    answered = ap (λ (a : Answer). answerOut n a) (passed-answer D (stateIn n) C xs rs 0 passes refl _ judged)
+    answered = ap (λ (a : Answer). answerOut n a) (passed-answer D (stateIn n) C xs rs 0 none-applies refl _ judged)
 
     pub unwritten : Bytes xs → xs ≡ arrayCycled d n b xs rs
     unfolding arrayJudged arrayCycled
-    unwritten bytes = passed-bytes D (stateIn n) C xs rs 0 passes refl xs bytes bytes (simp same) refl refl
+    unwritten bytes = passed-bytes D (stateIn n) C xs rs 0 none-applies refl xs bytes bytes (simp same) refl refl
 
   -- by kind
   pub up-kind : (k : Kind) → C .kind ≡ k → decideJudged D s C ≡ decideKind k D s C (settledAs t Nothing)

@@ -45,7 +45,7 @@ returns-7 c = λ e.
     let d = c .before .before .before .before .before .before .before .before .before .before .before .before .before .before .before .before .before .before .args .d in
     let n = c .before .before .before .before .before .before .before .before .before .before .before .before .before .before .before .before .before .before .args .n in
     let inside : n .address < sizeOf (deviceIn d .part) = omega (arith, c .before .before .before .before .if6 .left, c .before .before .before .before .before .before .size .ensures, ap (λ (x : Part). sizeOf x) (c .before .before .before .before .before .before .before .part-in .ensures)) in
-    let more : 1 < n .left = omega (arith, c .before .before .before .before .before .before .before .before .before .before .before .before .before .before .if2 .left) in
+    let more : 0 < n .left = omega (arith, c .before .before .before .before .before .before .before .before .before .before .before .before .before .before .if2 .left) in
     programming d n (c .before .before .before .before .before .before .before .before .before .before .before .before .before .before .before .before .if1 .left) (c .before .before .before .before .before .before .before .before .before .before .before .before .if3 .left) (c .before .before .before .before .before .before .before .before .before .before .if4 .left) (c .before .before .before .before .before .before .before .before .if5 .left) more inside (c .before .before .if7 .taken) (leb-true (n .left) (d .program) e)
 
 returns-8 : tie.Need-returns-8
@@ -56,7 +56,7 @@ returns-9 c = λ e.
     let d = c .before .before .before .before .before .before .before .before .before .before .before .before .before .before .before .before .before .before .before .before .before .args .d in
     let n = c .before .before .before .before .before .before .before .before .before .before .before .before .before .before .before .before .before .before .before .before .before .args .n in
     let inside : n .address < sizeOf (deviceIn d .part) = omega (arith, c .before .before .before .before .before .before .before .if6 .left, c .before .before .before .before .before .before .before .before .before .size .ensures, ap (λ (x : Part). sizeOf x) (c .before .before .before .before .before .before .before .before .before .before .part-in .ensures)) in
-    let more : 1 < n .left = omega (arith, c .before .before .before .before .before .before .before .before .before .before .before .before .before .before .before .before .before .if2 .left) in
+    let more : 0 < n .left = omega (arith, c .before .before .before .before .before .before .before .before .before .before .before .before .before .before .before .before .before .if2 .left) in
     let none = eqb (n .data) 0 in
     let most = leb (n .left) (d .erase) in
     erasing d n (c .before .before .before .before .before .before .before .before .before .before .before .before .before .before .before .before .before .before .before .if1 .left) (c .before .before .before .before .before .before .before .before .before .before .before .before .before .before .before .if3 .left) (c .before .before .before .before .before .before .before .before .before .before .before .before .before .if4 .left) (c .before .before .before .before .before .before .before .before .before .before .before .if5 .left) more inside (c .before .before .before .if8 .left) (eqb-true (n .data) 0 (and-left none most e)) (leb-true (n .left) (d .erase) (and-right none most e))

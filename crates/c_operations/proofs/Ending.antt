@@ -1,0 +1,123 @@
+-- A supplied read or idle cycle that ends an operation: the array has what it leaves, and a read gives the status.
+use mathlib.Core.Path.{_≡_, refl, sym, ap, _∙_}
+use mathlib.Core.Bool.{Bool, true, false}
+use mathlib.Core.List.{List}
+use Prim.Native.Nat.{ℕ, _-_}
+use native.Mathlib.Omega.{arith}
+use lib.ListN.{length}
+use lib.Dec.{eqb}
+use lib.Bits.{bitOr}
+use borrow.Author.Tests.{eqb-true, eqb-false, eq-eqb}
+use Rattle.common.specs.Choice.{if_then_else_}
+use Rattle.common.specs.Lists.{Bytes}
+use Rattle.common.proofs.Choice.{if-false}
+use Rattle.units.specs.Units.{units, spare, lentIn, unitsIn}
+use Rattle.device.specs.declared.Device.{Device}
+use Rattle.model_types.specs.declared.Kind.{Kind}
+use Rattle.model_types.specs.declared.Kind.the-variants.{Read, Idle}
+use Rattle.model_types.specs.declared.Mode.the-variants.{Status}
+use Rattle.model_types.specs.declared.Phase.the-variants.{Free}
+use Rattle.model_types.specs.declared.Effect.{Effect}
+use Rattle.model_types.specs.declared.Reply.{Reply}
+use Rattle.model_types.specs.declared.Reply.the-variants.{Quiet, Gives}
+use Rattle.model_types.specs.declared.State.{State}
+use Rattle.model_types.specs.declared.Cycle.{Cycle}
+use Rattle.model_levels.specs.Levels.{rpLow, vppLow}
+use Rattle.model_operation.specs.Settling.{settledAs, settleOf, passedOf, countedOff}
+use Rattle.model_judge.specs.Judging.{shortResidue, judgeOf}
+use Rattle.model_rules.specs.Cycles.{decidedAs}
+use Rattle.model_rules.specs.Inner.{decideKind, decideJudged}
+use Rattle.model.specs.declared.Answer.{Answer}
+use Rattle.model.specs.Arrays.{seenOf}
+use Rattle.model.specs.Inner.{doneOf, answerJudged, arrayJudged}
+use Rattle.model.proofs.Borders.{passed-answer, passed-bytes}
+use Rattle.c_cycle.specs.Values.{deviceIn, noState, wearIn, stateIn, stateOut, kindIn, cycleIn}
+use Rattle.c_cycle.specs.Answers.{stateBack, answerOut, cycled, arrayCycled}
+use Rattle.c_cycle.specs.declared.DeviceNumbers.{DeviceNumbers}
+use Rattle.c_cycle.specs.declared.StateNumbers.{StateNumbers}
+use Rattle.c_cycle.specs.declared.BusNumbers.{BusNumbers}
+use Rattle.c_ordinary.proofs.Passing.{passes}
+use Rattle.c_operations.specs.Operations.{Running, Supplied, Ending, endIn, endedAs, seenIn, shownIn}
+use Rattle.c_operations.proofs.Running.{going, is-going, is-proper}
+
+module _ (d : DeviceNumbers) (n : StateNumbers) (b : BusNumbers) (xs rs : List ℕ) (o : Supplied d b (length xs)) (g : Ending d n b) where
+  abbrev r : Running d n
+  r = g .running
+
+  abbrev D : Device
+  D = deviceIn d
+
+  abbrev C : Cycle
+  C = cycleIn b
+
+  abbrev word : Bool
+  word = D .part .word
+
+  abbrev S : State
+  S = going d n r (n .left)
+
+  -- the state at rest, and what is done
+  abbrev T : State
+  T = record { mode = Status; status = bitOr (n .status) 0x80; phase = Free; left = 0; address = 0; wear = wearIn (n .wear) }
+
+  abbrev E : Effect
+  E = endIn (D .part) n
+
+  enough : (k : ℕ) → shortResidue (D .part) S C k ≡ false
+  unfolding shortResidue
+  enough k = simp (o .ordinary .up, o .supplied)
+
+  settled : settleOf (D .part) S (C .pins) ≡ settledAs T E
+  unfolding settleOf passedOf countedOff
+  settled = simp (o .ordinary .up, o .supplied, r .busy, r .unheld, eq-eqb (n .left - 1) 0 (omega (arith, g .last)))
+
+  pass : 0 ≡ judgeOf D (stateIn n) C (lentIn word (length xs)) (unitsIn word (length rs))
+  pass = passes d n b xs rs (o .ordinary) S (is-going d n r) (is-proper d n r) enough
+
+  up-kind : (k : Kind) → C .kind ≡ k → decideJudged D S C ≡ decideKind k D S C (settledAs T E)
+  unfolding decideJudged
+  up-kind k e = if-false (rpLow (C .pins)) _ _ (o .ordinary .up) ∙ (λ i. decideKind (e i) D S C (settled i))
+
+  -- by the reply
+  module _ (reply : Reply) (e : decideJudged D S C ≡ decidedAs reply T E) where
+    same : decidedAs reply T E ≡ decideJudged D (stateIn n) C
+    same = sym (ap (λ (x : State). decideJudged D x C) (is-going d n r) ∙ e)
+
+    judged : record { seen = seenOf reply (arrayJudged D (stateIn n) C (units word xs) (units word rs)); state = T } ≡ answerJudged D (stateIn n) C (units word xs) (units word rs)
+    unfolding answerJudged
+    judged = λ i. record { seen = seenOf (same i .reply) (arrayJudged D (stateIn n) C (units word xs) (units word rs)); state = same i .state }
+
+    answered : answerOut n (record { seen = seenOf reply (arrayJudged D (stateIn n) C (units word xs) (units word rs)); state = T }) ≡ cycled d n b xs rs
+    unfolding cycled
+    answered = ap (λ (a : Answer). answerOut n a) (passed-answer D (stateIn n) C xs rs 0 pass refl _ judged)
+
+    written : (ys : List ℕ) → Bytes xs → Bytes ys → units word ys ≡ doneOf E (D .part) (units word rs) (units word xs) → spare word ys ≡ spare word xs → length ys ≡ length xs → ys ≡ arrayCycled d n b xs rs
+    unfolding arrayJudged arrayCycled
+    written ys p q u s l = passed-bytes D (stateIn n) C xs rs 0 pass refl ys p q (u ∙ (λ i. doneOf (same i .effect) (D .part) (units word rs) (units word xs))) s l
+
+  goes-back : stateBack n T ≡ stateOut T
+  unfolding stateBack
+  goes-back = if-false (noState n) n (stateOut T) (r .there)
+
+  reads : b .kind ≡ 0 → decideJudged D S C ≡ decidedAs (Gives (T .status)) T E
+  unfolding kindIn
+  reads e = up-kind Read (ap kindIn e)
+
+  idles : b .kind ≡ 2 → decideJudged D S C ≡ decidedAs Quiet T E
+  unfolding kindIn
+  idles e = up-kind Idle (ap kindIn e)
+
+  -- for code: what is answered, and what is left
+  pub ends : (endedAs n (b .kind) ≡ cycled d n b xs rs)
+      × ((ys : List ℕ) → Bytes xs → Bytes ys → units word ys ≡ doneOf E (D .part) (units word rs) (units word xs) → spare word ys ≡ spare word xs → length ys ≡ length xs → ys ≡ arrayCycled d n b xs rs)
+  unfolding seenIn shownIn
+  ends = go (eqb (b .kind) 0) refl
+    where
+      go : (t : Bool) → eqb (b .kind) 0 ≡ t → (record { seen = if t then 1 else 0; value = if t then T .status else 0; state = stateOut T } ≡ cycled d n b xs rs)
+          × ((ys : List ℕ) → Bytes xs → Bytes ys → units word ys ≡ doneOf E (D .part) (units word rs) (units word xs) → spare word ys ≡ spare word xs → length ys ≡ length xs → ys ≡ arrayCycled d n b xs rs)
+      go true e =
+          let f = reads (eqb-true (b .kind) 0 e) in
+          ((λ i. record { seen = 1; value = T .status; state = sym goes-back i }) ∙ answered (Gives (T .status)) f, written (Gives (T .status)) f)
+      go false e =
+          let f = idles (omega (arith, o .ordinary .kind, eqb-false (b .kind) 0 e, eqb-false (b .kind) 1 (g .unwritten))) in
+          ((λ i. record { seen = 0; value = 0; state = sym goes-back i }) ∙ answered Quiet f, written Quiet f)
