@@ -71,7 +71,7 @@ static const maker proved = {tb_size, tb_block, tb_fresh, tb_cycle, tb_table_cyc
                              tb_wear_add, tb_wear_report, tb_store_find, tb_recording, tb_held_run};
 static const maker second = {c_size, c_block, c_fresh, c_cycle, c_cycle, c_start, c_step, c_run, c_stepped_run, c_verify_run,
                              c_load, c_file_write, c_file_read, c_block_check, c_no_product, c_table_judge, c_table_reading,
-                             c_wear_add, c_wear_report, c_store_find, c_recording, c_held_run};
+                             c_wear_add, c_wear_report, c_store_find, c_recording, c_held_quick};
 
 /* What the work is done on; `ready` of a row sets it, and all of it is compared after the row. It stands at the start of a page,
  * since the C library's copies go different ways for different addresses. */

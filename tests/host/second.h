@@ -47,6 +47,9 @@ tb_held_given c_held_step(tb_held, uint16_t value, const uint8_t *wanted, size_t
 tb_ran c_held_run(tb_device, tb_state, uint8_t rp, uint8_t wp, uint32_t vpp, uint8_t block, uint8_t verify, uint8_t *array, size_t,
                   const uint8_t *wanted, size_t, uint8_t *scratch, size_t, const uint32_t *polls, size_t, const uint32_t *addresses,
                   size_t, uint8_t *room, size_t);
+tb_ran c_held_quick(tb_device, tb_state, uint8_t rp, uint8_t wp, uint32_t vpp, uint8_t block, uint8_t verify, uint8_t *array, size_t,
+                    const uint8_t *wanted, size_t, uint8_t *scratch, size_t, const uint32_t *polls, size_t, const uint32_t *addresses,
+                    size_t, uint8_t *room, size_t);
 tb_ran c_held_load(tb_device, tb_state, uint8_t rp, uint8_t wp, uint32_t vpp, uint8_t block, uint8_t verify, uint8_t letter,
                    const uint8_t *file, size_t, uint8_t *array, size_t, uint8_t *wanted, size_t, uint8_t *scratch, size_t,
                    const uint32_t *polls, size_t, const uint32_t *addresses, size_t, uint8_t *room, size_t);

@@ -1,5 +1,6 @@
 /* The second implementation: a load whose erase is interrupted for reads from other blocks, run and a step at a time. The usual cycles of a
- * step are those of c_step. A run's stages are those of second_run.h, but for the erase, whose cycles are made one by one. */
+ * step are those of c_step. A run's stages are those of second_run.h, but for the erase, whose cycles are made one by one;
+ * c_held_quick does the erase at once too, and is what the bench measures by. */
 #include "second_file.h"
 #include "second_run.h"
 
@@ -134,13 +135,48 @@ static uint8_t loaded(bench *b, const order *o, const lists *h) {
     return program_all(b, word);
 }
 
-static tb_ran ran(const order *o, bool verify, uint8_t *array, const uint8_t *wanted, uint8_t *scratch, size_t n, const lists *h) {
+/* The same at once: each listed poll adds its cycles, and the room is filled once. An interruption in the last poll's place leaves the chip
+ * in read array. (R-held-2) */
+static uint8_t loaded_at_once(bench *b, const order *o, const lists *h) {
+    bool word = o->device.word;
+    open_block(b, word);
+    if (must_erase(b->wanted, b->scratch, b->n)) {
+        uint8_t end = erase_all(b, o->block);
+        if (end != TB_OK) {
+            b->count += listed(h, 1) ? 2 : 0;
+            return end;
+        }
+        uint64_t each = h->count + 3, waits = o->device.suspend > 2 ? o->device.suspend - 1u : 1, last = o->device.erase, met = 0;
+        for (uint64_t next = listed_from(h, 1); next <= last; next = listed_from(h, next + 1)) {
+            met = next;
+            b->count += each + (next == last ? 0 : waits);
+        }
+        for (size_t i = 0; met != 0 && i < h->count; i++)
+            put_unit(h->room, i, unit_of(b->chip.array, h->addresses[i], word), word);
+        if (met == last)
+            b->state.mode = TB_MODE_ARRAY;
+    }
+    return program_all(b, word);
+}
+
+typedef uint8_t load_way(bench *, const order *, const lists *);
+
+static inline tb_ran ran(load_way *way, const order *o, bool verify, uint8_t *array, const uint8_t *wanted, uint8_t *scratch, size_t n,
+                         const lists *h) {
     bench b = bench_of(o, array, wanted, scratch, n);
     uint32_t address = 0;
-    uint8_t end = loaded(&b, o, h);
+    uint8_t end = way(&b, o, h);
     if (end == TB_OK && verify)
         end = verify_all(&b, o->device.word, &address);
     return (tb_ran){b.count, end, address, b.state};
+}
+
+static inline tb_ran judged_and_ran(load_way *way, const order *o, bool verify, uint8_t *array, size_t size, const uint8_t *wanted, size_t n,
+                                    uint8_t *scratch, size_t m, const lists *h) {
+    uint8_t number = run_refused(o, size, n, m);
+    if (number == TB_OK)
+        number = lists_bad(second_parts[o->device.number], o->block, o->device.word, h, 0, h->count);
+    return number != TB_OK ? (tb_ran){0, number, 0, o->state} : ran(way, o, verify, array, wanted, scratch, n, h);
 }
 
 tb_ran c_held_run(tb_device d, tb_state s, uint8_t rp, uint8_t wp, uint32_t vpp, uint8_t block, uint8_t verify, uint8_t *array, size_t size,
@@ -148,10 +184,15 @@ tb_ran c_held_run(tb_device d, tb_state s, uint8_t rp, uint8_t wp, uint32_t vpp,
                   size_t k, uint8_t *room, size_t r) {
     order o = {d, s, rp, wp, block, vpp};
     lists h = {polls, q, addresses, k, room, r};
-    uint8_t number = run_refused(&o, size, n, m);
-    if (number == TB_OK)
-        number = lists_bad(second_parts[d.number], block, d.word, &h, 0, k);
-    return number != TB_OK ? (tb_ran){0, number, 0, s} : ran(&o, verify, array, wanted, scratch, n, &h);
+    return judged_and_ran(loaded, &o, verify, array, size, wanted, n, scratch, m, &h);
+}
+
+tb_ran c_held_quick(tb_device d, tb_state s, uint8_t rp, uint8_t wp, uint32_t vpp, uint8_t block, uint8_t verify, uint8_t *array,
+                    size_t size, const uint8_t *wanted, size_t n, uint8_t *scratch, size_t m, const uint32_t *polls, size_t q,
+                    const uint32_t *addresses, size_t k, uint8_t *room, size_t r) {
+    order o = {d, s, rp, wp, block, vpp};
+    lists h = {polls, q, addresses, k, room, r};
+    return judged_and_ran(loaded_at_once, &o, verify, array, size, wanted, n, scratch, m, &h);
 }
 
 tb_ran c_held_load(tb_device d, tb_state s, uint8_t rp, uint8_t wp, uint32_t vpp, uint8_t block, uint8_t verify, uint8_t letter,
@@ -168,7 +209,7 @@ tb_ran c_held_load(tb_device d, tb_state s, uint8_t rp, uint8_t wp, uint32_t vpp
         return (tb_ran){0, number, 0, s};
     memcpy(wanted, file, f);
     memset(wanted + f, 0xFF, n - f);
-    return ran(&o, verify, array, wanted, scratch, n, &h);
+    return ran(loaded, &o, verify, array, wanted, scratch, n, &h);
 }
 
 /* A step at a time. */

@@ -152,7 +152,7 @@ pub extern "C" fn tb_held_run(
 {
     let work = Work::Load(verify != 0);
     let j = c_records::runs::job_in(work, device, state, rp, wp, vpp, block);
-    let ran = loader_held_run::run_held(j, array, wanted, scratch, polls, addresses, room);
+    let ran = loader_held_quick::run_held_quick(j, array, wanted, scratch, polls, addresses, room);
     c_records::runs::ran_out(state, ran)
 }
 

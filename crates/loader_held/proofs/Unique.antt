@@ -1,5 +1,6 @@
 -- Two results that a promise of this crate allows are equal, and so is what it leaves in each thing lent.
 use mathlib.Core.Path.{_≡_}
+use mathlib.Core.Bool.{Bool}
 use mathlib.Core.List.{List}
 use Prim.Native.Nat.{ℕ}
 use Rattle.common.specs.Choice.{Unique}
@@ -10,7 +11,7 @@ use Rattle.loader_held.specs.declared.Step.{Step}
 use Rattle.loader_held.specs.declared.Hold.{Hold}
 use Rattle.loader_held.specs.declared.Pair.{Pair}
 use Rattle.loader_moves.specs.Inner.{past}
-use Rattle.loader_held.specs.Holds.{usual, pairOf, heldNext, heldCycle}
+use Rattle.loader_held.specs.Holds.{listed, usual, pairOf, heldNext, heldCycle}
 
 -- what store_room and held_next leave is told by its units and its spare byte (`left-unique` of units)
 pub held-next-unique : (step : Step) (l : Loader) (h : Hold) (v k : ℕ) (w sc ps : List ℕ) → Unique (λ (r : Pair). r ≡ heldNext step l h v k w sc ps)
@@ -27,3 +28,6 @@ pair-of-unique l h = only (pairOf l h)
 
 pub next-place-unique : (p n : ℕ) → Unique (λ (r : ℕ). r ≡ past p n)
 next-place-unique p n = only (past p n)
+
+pub is-listed-unique : (n : ℕ) (ps : List ℕ) → Unique (λ (r : Bool). r ≡ listed n ps)
+is-listed-unique n ps = only (listed n ps)

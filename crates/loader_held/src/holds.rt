@@ -24,7 +24,7 @@ ghost use lib.ListN.{getD};
 ghost use Rattle.loader_steps.specs.Outs.{cycleAt};
 
 // The number stands among the polls.
-fn is_listed(n: u32, polls: &[u32]) -> bool
+pub fn is_listed(n: u32, polls: &[u32]) -> bool
     ensures { λ r. ⌜ r ≡ listed n (now (polls .entry)) ⌝ }
 {
     let mut i = 0;

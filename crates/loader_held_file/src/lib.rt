@@ -2,8 +2,8 @@
 // and only then the flash block is loaded with it.
 use loader_from_file::file_number;
 use loader_held_lists::list_number;
+use loader_held_quick::run_held_quick;
 use loader_held_run::refused;
-use loader_held_run::run_held;
 use loader_run::Job;
 use loader_run::Ran;
 use loader_run::run_number;
@@ -96,7 +96,7 @@ pub fn load_held(
     );
     if n == 0 {
         fill_file(file, wanted);
-        return run_held(j, array, wanted, scratch, polls, addresses, room);
+        return run_held_quick(j, array, wanted, scratch, polls, addresses, room);
     }
     refused(n, s)
 }

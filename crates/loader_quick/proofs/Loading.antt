@@ -129,7 +129,7 @@ module _ (j : Job) (w ys : List ℕ) (stuck : stuckBy (j .device .part) (j .pins
       go false true = refl
       go false false = refl
 
-  none-well : asWanted w ys ≡ false → eqb (endNumber (j .device) (j .pins) (j .block) w ys) 0 ≡ false
+  pub none-well : asWanted w ys ≡ false → eqb (endNumber (j .device) (j .pins) (j .block) w ys) 0 ≡ false
   none-well o = ap (λ (n : ℕ). eqb n 0) (fault-ends o) ∙ some-number (j .device .part) (risesIn w ys)
 
   bits-are : faultStatus (j .device) (j .pins) w ys ≡ faultBits (j .device .part) (j .pins) (risesIn w ys)
@@ -187,7 +187,7 @@ module _ (j : Job) (w ys : List ℕ) (stuck : stuckBy (j .device .part) (j .pins
 
 -- a load whose operations can start
 module _ (j : Job) (w ys : List ℕ) (can : stuckBy (j .device .part) (j .pins) (j .block) ≡ false) where
-  well-ends : endNumber (j .device) (j .pins) (j .block) w ys ≡ 0
+  pub well-ends : endNumber (j .device) (j .pins) (j .block) w ys ≡ 0
   unfolding endNumber stuckBy
   well-ends = rw (or-left (vppLow (j .device .part) (j .pins)) (shut (j .device .part) (j .pins) (j .block)) can, or-right (vppLow (j .device .part) (j .pins)) (shut (j .device .part) (j .pins) (j .block)) can) (go (asWanted w ys))
     where

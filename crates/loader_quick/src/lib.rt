@@ -44,7 +44,7 @@ fn is_shut(part: Part, p: Pins, block: u8) -> bool
 }
 
 // No operation can start.
-fn is_stuck(part: Part, p: Pins, block: u8) -> bool
+pub fn is_stuck(part: Part, p: Pins, block: u8) -> bool
     ensures { λ r. ⌜ r ≡ stuckBy part p block ⌝ }
 {
     vpp_low(part, p) | is_shut(part, p, block)
@@ -80,7 +80,7 @@ fn fault_bits(part: Part, p: Pins, erase: bool) -> u8
 }
 
 // Where a block's bytes begin.
-fn first_byte(part: Part, block: u8) -> usize
+pub fn first_byte(part: Part, block: u8) -> usize
     ensures { λ r. ⌜ r ≡ byteOf (part .word) (startOf part block) ⌝ }
 {
     let word = part.word;

@@ -353,8 +353,26 @@ fn print_saying(saying: Saying) {
     }
 }
 
-// A run or a load alone, on what is lent.
+// A run or a load alone, cycle by cycle or stage by stage: the two promise the same.
+fn made(
+    cycles: bool,
+    j: Job,
+    array: &mut [u8],
+    wanted: &[u8],
+    scratch: &mut [u8],
+    polls: &[u32],
+    addresses: &[u32],
+    room: &mut [u8],
+) -> Ran {
+    if cycles {
+        return loader_held_run::run_held(j, array, wanted, scratch, polls, addresses, room);
+    }
+    loader_held_quick::run_held_quick(j, array, wanted, scratch, polls, addresses, room)
+}
+
+// .. on what is lent.
 fn ran(
+    cycles: bool,
     op: u8,
     setup: Setup,
     before: State,
@@ -380,7 +398,8 @@ fn ran(
         block: setup.block,
         work: Work::Load(op == b'R'),
     };
-    loader_held_run::run_held(
+    made(
+        cycles,
         j,
         &mut array[0..n],
         &wanted[0..m],
@@ -406,6 +425,7 @@ struct Shown {
 }
 
 fn made_and_summed(
+    cycles: bool,
     op: u8,
     setup: Setup,
     before: State,
@@ -415,13 +435,67 @@ fn made_and_summed(
     numbers: &[u32],
     room: &mut [u8],
 ) -> Shown {
-    let x = ran(op, setup, before, array, wanted, scratch, numbers, room);
+    let x = ran(
+        cycles,
+        op,
+        setup,
+        before,
+        array,
+        wanted,
+        scratch,
+        numbers,
+        room,
+    );
     Shown {
         ran: x,
         array: sum_of(array, setup.array),
         scratch: sum_of(scratch, setup.scratch),
         room: sum_of(room, setup.room),
     }
+}
+
+// The same cycle by cycle, on copies.
+fn by_cycles(
+    op: u8,
+    setup: Setup,
+    before: State,
+    array: &[u8],
+    wanted: &[u8],
+    scratch: &[u8],
+    numbers: &[u32],
+    room: &[u8],
+) -> Shown {
+    let mut twin = vectors_states::vast();
+    let mut notes = vectors_text::blank();
+    let mut read = vectors_text::blank();
+    common::copy(&mut twin, array);
+    common::copy(&mut notes, scratch);
+    common::copy(&mut read, room);
+    made_and_summed(
+        true,
+        op,
+        setup,
+        before,
+        &mut twin,
+        wanted,
+        &mut notes,
+        numbers,
+        &mut read,
+    )
+}
+
+// Two runs returned and left the same.
+fn same_shown(a: Shown, b: Shown) -> bool {
+    let x = a.ran;
+    let y = b.ran;
+    let s = x.state;
+    let t = y.state;
+    let same = (x.count == y.count) & (x.end == y.end) & (x.address == y.address);
+    same
+        & vectors_states::same_state(s, t)
+        & (a.array == b.array)
+        & (a.scratch == b.scratch)
+        & (a.room == b.room)
 }
 
 // A run or a load alone, and its line.
@@ -436,8 +510,19 @@ fn run_line(
 ) -> Bench {
     let setup = b.setup;
     let before = b.state;
-    let shows = made_and_summed(op, setup, before, array, wanted, scratch, numbers, room);
-    told(op, b, shows)
+    let other = by_cycles(op, setup, before, array, wanted, scratch, numbers, room);
+    let shows = made_and_summed(
+        false,
+        op,
+        setup,
+        before,
+        array,
+        wanted,
+        scratch,
+        numbers,
+        room,
+    );
+    compared(op, b, shows, other)
 }
 
 // The line itself.
@@ -450,6 +535,16 @@ fn told(op: u8, b: Bench, shows: Shown) -> Bench {
     let after = after_line(b, state, pair);
     print_run(op, x, shows.array, shows.scratch, shows.room, had);
     after
+}
+
+// .. and a second line where it is another cycle by cycle.
+fn compared(op: u8, b: Bench, shows: Shown, other: Shown) -> Bench {
+    let after = told(op, b, shows);
+    if same_shown(shows, other) {
+        return after;
+    }
+    print_text(b"cycle by cycle: ");
+    told(op, b, other)
 }
 
 // The line of a start or a step.

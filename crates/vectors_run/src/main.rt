@@ -400,35 +400,13 @@ fn by_cycles(
     }
 }
 
-fn same_wear(a: Wear, b: Wear) -> bool {
-    (a.block0 == b.block0)
-        & (a.block1 == b.block1)
-        & (a.block2 == b.block2)
-        & (a.block3 == b.block3)
-        & (a.block4 == b.block4)
-        & (a.block5 == b.block5)
-        & (a.block6 == b.block6)
-}
-
-fn same_state(a: State, b: State) -> bool {
-    let m = a.mode;
-    let n = b.mode;
-    let p = a.phase;
-    let q = b.phase;
-    let v = a.wear;
-    let w = b.wear;
-    (vectors_states::mode_letter(m) == vectors_states::mode_letter(n))
-        & (vectors_states::phase_letter(p) == vectors_states::phase_letter(q))
-        & (a.status == b.status)
-        & (a.left == b.left)
-        & (a.address == b.address)
-        & same_wear(v, w)
-}
-
 fn same_ran(x: Ran, y: Ran) -> bool {
     let s = x.state;
     let t = y.state;
-    (x.count == y.count) & (x.end == y.end) & (x.address == y.address) & same_state(s, t)
+    (x.count == y.count)
+        & (x.end == y.end)
+        & (x.address == y.address)
+        & vectors_states::same_state(s, t)
 }
 
 // A second line where the run cycle by cycle returns or leaves something else.

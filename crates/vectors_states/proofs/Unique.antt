@@ -11,7 +11,7 @@ use Rattle.model_types.specs.declared.Mode.{Mode}
 use Rattle.model_types.specs.declared.Phase.{Phase}
 use Rattle.model_types.specs.declared.State.{State}
 use Rattle.model_types.specs.declared.Wear.{Wear}
-use Rattle.vectors_states.specs.Letters.{modeBy, phaseBy, modeLetter, phaseLetter, wearAt, stateAt, wordBy, deviceAt}
+use Rattle.vectors_states.specs.Letters.{modeBy, phaseBy, modeLetter, phaseLetter, wearAt, stateAt, wordBy, deviceAt, sameWear, sameState}
 
 pub mode-by-unique : (letter : ℕ) → Unique (λ (r : Mode). r ≡ modeBy letter)
 mode-by-unique letter = only (modeBy letter)
@@ -36,6 +36,12 @@ device-at-unique row = only (deviceAt row)
 
 pub word-by-unique : (digit : ℕ) → Unique (λ (r : Bool). r ≡ wordBy digit)
 word-by-unique digit = only (wordBy digit)
+
+pub same-wear-unique : (a b : Wear) → Unique (λ (r : Bool). r ≡ sameWear a b)
+same-wear-unique a b = only (sameWear a b)
+
+pub same-state-unique : (a b : State) → Unique (λ (r : Bool). r ≡ sameState a b)
+same-state-unique a b = only (sameState a b)
 
 -- the array made
 pub vast-unique : Unique (λ (r : List ℕ). (r ≡ replicate {A = ℕ} 524289 0) × (524289 ≡ length r))

@@ -1,6 +1,6 @@
 -- Modes and phases as letters, and a row's state, counts and device.
 use Prim.Native.Nat.{ℕ, _+_, _%_}
-use mathlib.Core.Bool.{Bool}
+use mathlib.Core.Bool.{Bool, _&&_}
 use mathlib.Core.List.{List}
 use lib.Dec.{eqb}
 use lib.ListN.{getD}
@@ -87,3 +87,15 @@ deviceAt row = record {
   erase = numberAt row 10 14 5 % 65536;
   suspend = numberAt row 10 20 3 % 256;
 }
+
+-- two devices' counts are the same
+abbrev pub sameWear : Wear → Wear → Bool
+sameWear a b =
+    (((((eqb (a .block0) (b .block0) && eqb (a .block1) (b .block1)) && eqb (a .block2) (b .block2)) && eqb (a .block3) (b .block3))
+    && eqb (a .block4) (b .block4)) && eqb (a .block5) (b .block5)) && eqb (a .block6) (b .block6)
+
+-- two states are the same: modes and phases by their letters
+abbrev pub sameState : State → State → Bool
+sameState a b =
+    ((((eqb (modeLetter (a .mode)) (modeLetter (b .mode)) && eqb (phaseLetter (a .phase)) (phaseLetter (b .phase)))
+    && eqb (a .status) (b .status)) && eqb (a .left) (b .left)) && eqb (a .address) (b .address)) && sameWear (a .wear) (b .wear)

@@ -11,6 +11,7 @@ ghost use mathlib.Core.Path.{_≡_};
 ghost use Prim.Native.Nat.{ℕ};
 ghost use lib.ListN.{length, replicate};
 ghost use Rattle.vectors_states.specs.Letters.{modeBy, phaseBy, modeLetter, phaseLetter, wearAt, stateAt, wordBy, deviceAt};
+ghost use Rattle.vectors_states.specs.Letters.{sameWear, sameState};
 
 // The mode that a letter stands for; any other letter for the identifier.
 pub fn mode_by(letter: u8) -> Mode
@@ -138,6 +139,37 @@ pub fn device_at(row: &[u8]) -> Device
         erase: erase,
         suspend: suspend,
     }
+}
+
+// Two devices' counts are the same.
+pub fn same_wear(a: Wear, b: Wear) -> bool
+    ensures { λ r. ⌜ r ≡ sameWear a b ⌝ }
+{
+    (a.block0 == b.block0)
+        & (a.block1 == b.block1)
+        & (a.block2 == b.block2)
+        & (a.block3 == b.block3)
+        & (a.block4 == b.block4)
+        & (a.block5 == b.block5)
+        & (a.block6 == b.block6)
+}
+
+// Two states are the same, modes and phases by their letters.
+pub fn same_state(a: State, b: State) -> bool
+    ensures { λ r. ⌜ r ≡ sameState a b ⌝ }
+{
+    let m = a.mode;
+    let n = b.mode;
+    let p = a.phase;
+    let q = b.phase;
+    let v = a.wear;
+    let w = b.wear;
+    (mode_letter(m) == mode_letter(n))
+        & (phase_letter(p) == phase_letter(q))
+        & (a.status == b.status)
+        & (a.left == b.left)
+        & (a.address == b.address)
+        & same_wear(v, w)
 }
 
 // As many zeros as the largest part has bytes, and one more.

@@ -10,8 +10,8 @@ use Rattle.c_held.proofs.tb_held_run.Tie as tie
 job-in-requires : tie.Need-job-in-requires
 job-in-requires c κs = search needs
 
-run-held-requires : tie.Need-run-held-requires
-run-held-requires c κs = search needs
+run-held-quick-requires : tie.Need-run-held-quick-requires
+run-held-quick-requires c κs = search needs
 
 ran-out-requires : tie.Need-ran-out-requires
 ran-out-requires c κs = search needs
@@ -36,10 +36,10 @@ returns c =
     let bs = a .addresses .now in
     let room = a .room .now in
     let e = c .before .before .before .before .before .before .before .before .before .before .before .job-in .ensures in
-    let r = c .before .before .before .before .before .before .before .run-held .ensures in (
+    let r = c .before .before .before .before .before .before .before .run-held-quick .ensures in (
       c .ran-out .ensures ∙ ap (λ (x : Ran). ranOut (a .state) x) (r .0 ∙ (λ i. lentHeld (e i) xs w sc ps bs room .ran)),
       (r .1 .0 ∙ (λ i. lentHeld (e i) xs w sc ps bs room .bytes), (r .1 .1 .0 ∙ (λ i. lentHeld (e i) xs w sc ps bs room .scratch), r .1 .1 .1 ∙ (λ i. lentHeld (e i) xs w sc ps bs room .room))),
     )
 
 pub tb-held-run-spec : {M : Type 1} → statement M
-tb-held-run-spec = tie.close (tie.spec job-in-requires run-held-requires ran-out-requires same-length same-length-2 same-length-3 returns)
+tb-held-run-spec = tie.close (tie.spec job-in-requires run-held-quick-requires ran-out-requires same-length same-length-2 same-length-3 returns)

@@ -12,8 +12,8 @@ fill-file-requires c κs =
     let a = c .before .before .before .before .before .before .before .before .before .before .before .args in
     short-file (a .j) (a .array .now) (a .wanted .now) (a .scratch .now) (a .file .now) (a .asked) (a .polls .now) (a .addresses .now) (a .room .now) (sym (c .before .before .held-load-number .ensures) ∙ c .before .if1 .taken)
 
-run-held-requires : tie.Need-run-held-requires
-run-held-requires c κs = search needs
+run-held-quick-requires : tie.Need-run-held-quick-requires
+run-held-quick-requires c κs = search needs
 
 same-length : tie.Need-same-length
 same-length c = search needs
@@ -30,7 +30,7 @@ same-length-4 c = search needs
 returns : tie.Need-returns
 returns c =
     let a = c .before .before .before .before .before .before .before .before .before .before .before .before .before .before .before .before .before .before .before .before .before .before .before .before .before .args in
-    let r = c .before .before .before .before .before .before .run-held .ensures in
+    let r = c .before .before .before .before .before .before .run-held-quick .ensures in
     told-made (a .j) (a .array .now) (a .wanted .now) (a .scratch .now) (a .file .now) (a .asked) (a .polls .now) (a .addresses .now) (a .room .now) (sym (c .before .before .before .before .before .before .before .before .before .before .before .before .before .before .before .before .held-load-number .ensures) ∙ c .before .before .before .before .before .before .before .before .before .before .before .before .before .before .before .if1 .taken) _ (c .before .before .before .before .before .before .before .before .before .before .before .before .before .fill-file .ensures) _ _ _ _ (r .0) (r .1 .0) (r .1 .1 .0) (r .1 .1 .1)
 
 refused-requires : tie.Need-refused-requires
@@ -49,7 +49,7 @@ load-held-spec =
     (tie.spec
     held-load-number-requires
     fill-file-requires
-    run-held-requires
+    run-held-quick-requires
     same-length
     same-length-2
     same-length-3

@@ -1,0 +1,5 @@
+pub mod Listing
+pub mod Adding
+pub mod Turning
+pub mod HeldLoading
+pub mod Unique
