@@ -9,6 +9,7 @@
 
 #include "mark.h"
 #include "second.h"
+#include "second_file.h"
 
 typedef struct {
     size_t (*size)(uint8_t);
@@ -27,6 +28,8 @@ typedef struct {
                    uint8_t *, size_t, uint8_t *, size_t);
     tb_sized (*write)(uint8_t, const uint8_t *, size_t, uint8_t *, size_t);
     tb_sized (*read)(uint8_t, const uint8_t *, size_t, uint8_t *, size_t);
+    tb_sized (*write_sums)(uint8_t, const uint8_t *, size_t, uint8_t *, size_t);
+    tb_sized (*read_sums)(uint8_t, const uint8_t *, size_t, uint8_t *, size_t);
     uint16_t (*check)(const uint8_t *, size_t);
     uint16_t (*sums)(const uint8_t *, size_t);
     uint8_t (*judge)(const uint8_t *, size_t);
@@ -39,39 +42,12 @@ typedef struct {
                    uint8_t *, size_t, const uint32_t *, size_t, const uint32_t *, size_t, uint8_t *, size_t);
 } maker;
 
-/* The check without a product, as fast as this compiler makes it: running sums in 32 columns of 16 bits, from the last byte on, which
- * it does eight at a time; the columns' own weights by running sums again; and two folds in the place of a division. */
-static uint16_t c_no_product(const uint8_t *block, size_t n) {
-    enum { COLUMNS = 32 };
-    uint16_t column[COLUMNS] = {0}, sums[COLUMNS] = {0};
-    uint32_t sum = 0, within = 0, total = 0;
-    size_t i = n < 510 ? n : 510;
-    for (; i >= COLUMNS; i -= COLUMNS)
-        for (int k = 0; k < COLUMNS; k++) {
-            column[k] = (uint16_t)(column[k] + block[i - COLUMNS + k]);
-            sums[k] = (uint16_t)(sums[k] + column[k]);
-        }
-    for (int k = COLUMNS; k-- > 0;) {
-        sum += column[k];
-        within += sum;
-        total += sums[k];
-    }
-    total = 1 + ((total - sum) << 5) + within;
-    while (i > 0) {
-        sum += block[--i];
-        total += sum;
-    }
-    for (int fold = 0; fold < 2; fold++)
-        total = (total & 65535) + (total >> 16 << 4) - (total >> 16);
-    return (uint16_t)(total >= 65521 ? total - 65521 : total);
-}
-
 static const maker proved = {tb_size, tb_block, tb_fresh, tb_cycle, tb_table_cycle, tb_start, tb_step, tb_run, tb_run, tb_verify_run,
-                             tb_load, tb_file_write, tb_file_read, tb_block_check, tb_block_check, tb_table_judge, tb_table_reading,
-                             tb_wear_add, tb_wear_report, tb_store_find, tb_recording, tb_held_run};
+                             tb_load, tb_file_write, tb_file_read, tb_file_write, tb_file_read, tb_block_check, tb_block_check, tb_table_judge,
+                             tb_table_reading, tb_wear_add, tb_wear_report, tb_store_find, tb_recording, tb_held_run};
 static const maker second = {c_size, c_block, c_fresh, c_cycle, c_cycle, c_start, c_step, c_run, c_stepped_run, c_verify_run,
-                             c_load, c_file_write, c_file_read, c_block_check, c_no_product, c_table_judge, c_table_reading,
-                             c_wear_add, c_wear_report, c_store_find, c_recording, c_held_quick};
+                             c_load, c_file_write, c_file_read, c_file_write_sums, c_file_read_sums, c_block_check, c_block_sums, c_table_judge,
+                             c_table_reading, c_wear_add, c_wear_report, c_store_find, c_recording, c_held_quick};
 
 /* What the work is done on; `ready` of a row sets it, and all of it is compared after the row. It stands at the start of a page,
  * since the C library's copies go different ways for different addresses. */
@@ -402,6 +378,14 @@ static void work_read(const maker *m) {
     for (int t = 0; t < TURNS; t++)
         at.sum += (uint32_t)m->read('K', at.file, at.sized.length, at.back, sizeof at.back).length;
 }
+static void work_write_sums(const maker *m) {
+    for (int t = 0; t < TURNS; t++)
+        at.sized = m->write_sums('K', at.payload, size, at.file, sizeof at.file);
+}
+static void work_read_sums(const maker *m) {
+    for (int t = 0; t < TURNS; t++)
+        at.sum += (uint32_t)m->read_sums('K', at.file, at.sized.length, at.back, sizeof at.back).length;
+}
 static void work_sums(const maker *m) {
     for (int t = 0; t < TURNS; t++)
         at.sum += m->sums(at.file, 510);
@@ -599,6 +583,10 @@ static const struct {
     {"reader: eight blocks", 4040, TURNS, ready_file, work_read, NULL},
     {"writer: 224 blocks", TB_PAYLOAD_MOST, TURNS, ready_file, work_write, NULL},
     {"reader: 224 blocks", TB_PAYLOAD_MOST, TURNS, ready_file, work_read, NULL},
+    {"writer: one block, the C without a product", 505, TURNS, ready_file, work_write_sums, NULL},
+    {"writer: 224 blocks, the C without a product", TB_PAYLOAD_MOST, TURNS, ready_file, work_write_sums, NULL},
+    {"reader: one block, the C without a product", 505, TURNS, ready_file, work_read_sums, NULL},
+    {"reader: 224 blocks, the C without a product", TB_PAYLOAD_MOST, TURNS, ready_file, work_read_sums, NULL},
     {"check of 510 bytes", 505, TURNS, ready_file, work_check, NULL},
     {"check of 510 bytes, the C without a product", 505, TURNS, ready_file, work_sums, NULL},
     {"reading: a table of 673 knots judged", 673, TURNS, ready_table, work_judge, NULL},
