@@ -60,7 +60,8 @@ static void put_pair(uint8_t *at, size_t value) {
     at[1] = (uint8_t)value;
 }
 
-static inline tb_sized written(check_of *check, uint8_t letter, const uint8_t *payload, size_t n, uint8_t *file, size_t m) {
+static inline __attribute__((always_inline)) tb_sized written(check_of *check, uint8_t letter, const uint8_t *payload, size_t n,
+                                                              uint8_t *file, size_t m) {
     size_t blocks = (n + ROOM - 1) / ROOM;
     if (!is_letter(letter))
         return (tb_sized){TB_FILE_LETTER, 0};
@@ -111,7 +112,7 @@ static bool blank(const uint8_t *block, size_t number) {
     return !SLIP(29) || number == 0;
 }
 
-static inline uint8_t judged(check_of *check, uint8_t letter, const uint8_t *file, size_t n) {
+static inline __attribute__((always_inline)) uint8_t judged(check_of *check, uint8_t letter, const uint8_t *file, size_t n) {
     size_t blocks = n / BLOCK;
     if (n == 0 || n > TB_FILE_MOST || n % BLOCK != 0)
         return TB_FILE_SIZE;
@@ -131,8 +132,7 @@ static inline uint8_t judged(check_of *check, uint8_t letter, const uint8_t *fil
 
 uint8_t second_judge(uint8_t letter, const uint8_t *file, size_t n) { return judged(c_block_check, letter, file, n); }
 
-static inline tb_sized read_back(check_of *check, uint8_t letter, const uint8_t *file, size_t n, uint8_t *payload, size_t m) {
-    uint8_t number = judged(check, letter, file, n);
+static inline tb_sized read_back(uint8_t number, const uint8_t *file, size_t n, uint8_t *payload, size_t m) {
     if (number != TB_OK)
         return (tb_sized){number, 0};
     const uint8_t *last = file + n - BLOCK;
@@ -146,9 +146,9 @@ static inline tb_sized read_back(check_of *check, uint8_t letter, const uint8_t 
 }
 
 tb_sized c_file_read(uint8_t letter, const uint8_t *file, size_t n, uint8_t *payload, size_t m) {
-    return read_back(c_block_check, letter, file, n, payload, m);
+    return read_back(second_judge(letter, file, n), file, n, payload, m);
 }
 
 tb_sized c_file_read_sums(uint8_t letter, const uint8_t *file, size_t n, uint8_t *payload, size_t m) {
-    return read_back(c_block_sums, letter, file, n, payload, m);
+    return read_back(judged(c_block_sums, letter, file, n), file, n, payload, m);
 }

@@ -28,7 +28,8 @@ use Rattle.wear.specs.Refusals.{reportRows, addRows, addedTo}
 use Rattle.c_cycle.specs.Values.{deviceIn, deviceOut, noState, wearOut, stateIn, stateOut, cycleOut}
 use Rattle.c_records.specs.Records.{noRecord, loaderIn, loaderOut, sayingOut, jobIn}
 use Rattle.c_cycle.specs.Answers.{seenOut, valueOut, cycled, arrayCycled}
-use Rattle.c_functions.specs.Calls.{startedAt, steppedOf, scratchStepped, runAtOf, arrayRunAt, scratchRunAt, fileAtOf, arrayFileAt, wantedFileAt, scratchFileAt, writtenOf, fileLeft, fileRead, payloadLeft, ranNumbers, wearAdded, wearReported}
+use Rattle.c_functions.specs.Calls.{startedAt, runAtOf, arrayRunAt, scratchRunAt, fileAtOf, arrayFileAt, wantedFileAt, scratchFileAt, writtenOf, fileLeft, fileRead, payloadLeft, ranNumbers, wearAdded, wearReported}
+use Rattle.c_steps.specs.Steps.{steppedOf, scratchStepped}
 use Rattle.c_functions.specs.Geometry.{sizeReturned, blockReturned}
 use Rattle.c_cycle.specs.declared.DeviceNumbers.{DeviceNumbers}
 use Rattle.c_cycle.specs.declared.WearNumbers.{WearNumbers}

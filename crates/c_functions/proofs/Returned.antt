@@ -47,7 +47,8 @@ use Rattle.file_codec.specs.File.{Outcome, refused, made, limit, inRoom, leftIn
 use Rattle.c_cycle.specs.Values.{partIn, deviceIn, pinsIn, noState, stateIn, stateOut, cycleIn, cycleOut, deviceOut}
 use Rattle.c_records.specs.Records.{noRecord, loaderIn, loaderOut, loaderBack, sayingOut, ranOut, writtenOut, readOut, jobIn}
 use Rattle.c_cycle.specs.Answers.{stateBack, seenOut, valueOut, answerOut, cycled, arrayCycled}
-use Rattle.c_functions.specs.Calls.{wordModeOf, wordIn, startedAt, steppedOf, scratchStepped, runAtOf, arrayRunAt, scratchRunAt, fileAtOf, arrayFileAt, wantedFileAt, scratchFileAt, writtenOf, fileLeft, fileRead, payloadLeft, ranNumbers}
+use Rattle.c_functions.specs.Calls.{wordModeOf, startedAt, runAtOf, arrayRunAt, scratchRunAt, fileAtOf, arrayFileAt, wantedFileAt, scratchFileAt, writtenOf, fileLeft, fileRead, payloadLeft, ranNumbers}
+use Rattle.c_steps.specs.Steps.{wordIn, steppedOf, scratchStepped}
 use Rattle.c_functions.specs.Geometry.{partBy, sizeReturned, blockReturned}
 use Rattle.c_cycle.specs.declared.DeviceNumbers.{DeviceNumbers}
 use Rattle.c_cycle.specs.declared.StateNumbers.{StateNumbers}

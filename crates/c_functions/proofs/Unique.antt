@@ -11,7 +11,8 @@ use Rattle.c_cycle.specs.Values.{stateOut}
 use Rattle.c_records.specs.declared.BlockNumbers.{BlockNumbers}
 use Rattle.c_functions.specs.Geometry.{sizeReturned, blockReturned}
 use Rattle.c_cycle.specs.Answers.{cycled, arrayCycled}
-use Rattle.c_functions.specs.Calls.{started, steppedOf, scratchStepped, runOf, arrayRun, scratchRun, loadOf, arrayLoad, wantedLoad, scratchLoad, loadStarted, verifyStarted, loadRunOf, arrayLoadRun, scratchLoadRun, verifyRunOf, arrayVerifyRun, scratchVerifyRun, verifyFileOf, arrayVerifyFile, wantedVerifyFile, scratchVerifyFile, writtenOf, fileLeft, fileRead, payloadLeft, readingReturned, readingRead, wearAdded, wearReported}
+use Rattle.c_functions.specs.Calls.{started, runOf, arrayRun, scratchRun, loadOf, arrayLoad, wantedLoad, scratchLoad, loadStarted, verifyStarted, loadRunOf, arrayLoadRun, scratchLoadRun, verifyRunOf, arrayVerifyRun, scratchVerifyRun, verifyFileOf, arrayVerifyFile, wantedVerifyFile, scratchVerifyFile, writtenOf, fileLeft, fileRead, payloadLeft, readingReturned, readingRead, wearAdded, wearReported}
+use Rattle.c_steps.specs.Steps.{steppedOf, scratchStepped}
 use Rattle.c_readings.specs.declared.ReadingNumbers.{ReadingNumbers}
 use Rattle.reading_table.specs.Table.{tableNumber}
 use lib.IntN.{ℤ}

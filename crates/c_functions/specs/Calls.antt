@@ -6,17 +6,16 @@ use lib.ListN.{length}
 use lib.IntN.{ℤ}
 use Rattle.units.specs.Units.{units, lent}
 use Rattle.loader.specs.declared.Response.{Response}
-use Rattle.loader_steps.specs.Front.{startResponse, stepResponse, scratchLeft}
+use Rattle.loader_steps.specs.Front.{startResponse}
 use Rattle.loader_run.specs.declared.Ran.{Ran}
 use Rattle.file_codec.specs.File.{limit, inRoom, leftIn, readerOf, writerOf, readAs, writtenAs}
 use Rattle.c_cycle.specs.Values.{stateOut, partIn, deviceIn, pinsIn, wearIn, cycleIn}
-use Rattle.c_records.specs.Records.{loaderIn, loaderOut, loaderBack, sayingOut, writtenOut, readOut, ranOut, jobIn}
+use Rattle.c_records.specs.Records.{loaderOut, sayingOut, writtenOut, readOut, ranOut, jobIn}
 use Rattle.c_cycle.specs.declared.DeviceNumbers.{DeviceNumbers}
 use Rattle.c_cycle.specs.declared.WearNumbers.{WearNumbers}
 use Rattle.c_cycle.specs.declared.StateNumbers.{StateNumbers}
 use Rattle.c_cycle.specs.declared.BusNumbers.{BusNumbers}
 use Rattle.c_cycle.specs.declared.AnswerNumbers.{AnswerNumbers}
-use Rattle.c_records.specs.declared.LoaderNumbers.{LoaderNumbers}
 use Rattle.c_records.specs.declared.ResponseNumbers.{ResponseNumbers}
 use Rattle.c_records.specs.declared.RanNumbers.{RanNumbers}
 use Rattle.c_records.specs.declared.SizedNumbers.{SizedNumbers}
@@ -32,13 +31,9 @@ use Rattle.loader.specs.declared.Work.the-variants.{Load, Verify}
 use Rattle.loader_run.specs.Runs.{lentRun}
 use Rattle.loader_from_file.specs.Loads.{loadLeft}
 
--- whether the device that such numbers name is in word mode, and the part of a record's numbers
+-- whether the device that such numbers name is in word mode
 abbrev pub wordModeOf : DeviceNumbers → Bool
 wordModeOf d = deviceIn d .part .word
-
--- whether the part that a loader's numbers name is in word mode
-abbrev pub wordIn : LoaderNumbers → Bool
-wordIn l = loaderIn l .part .word
 
 -- what a start says, and the record
 abbrev pub responseOut : Response → ResponseNumbers
@@ -61,16 +56,6 @@ loadStarted part word rp wp vpp k w sc = startedAt (Load false) part word rp wp 
 -- .. of a verify alone
 abbrev pub verifyStarted : ℕ → ℕ → ℕ → ℕ → ℕ → ℕ → List ℕ → List ℕ → ResponseNumbers
 verifyStarted part word rp wp vpp k w sc = startedAt Verify part word rp wp vpp k w sc
-
--- a loader's step: what it says and the record, and scratch
-unfoldable pub steppedOf : LoaderNumbers → ℕ → List ℕ → List ℕ → ResponseNumbers
-steppedOf l v w sc =
-    let g : Response = stepResponse (loaderIn l) v (lent (wordIn l) w) (lent (wordIn l) sc) in
-    record { turn = sayingOut (g .saying); loader = loaderBack l (g .loader) }
-
--- .. what it leaves in scratch
-unfoldable pub scratchStepped : LoaderNumbers → ℕ → List ℕ → List ℕ → List ℕ
-scratchStepped l v w sc = scratchLeft (loaderIn l) v w sc
 
 -- what a run or a load returns, as numbers
 abbrev pub ranNumbers : Ran → RanNumbers

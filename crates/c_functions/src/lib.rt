@@ -25,7 +25,8 @@ ghost use Rattle.c_cycle.specs.Values.{stateOut};
 ghost use Rattle.reading_table.specs.Table.{tableNumber};
 ghost use Rattle.c_functions.specs.Geometry.{sizeReturned, blockReturned};
 ghost use Rattle.c_cycle.specs.Answers.{cycled, arrayCycled};
-ghost use Rattle.c_functions.specs.Calls.{responseOut, started, loadStarted, verifyStarted, steppedOf, scratchStepped, runOf};
+ghost use Rattle.c_functions.specs.Calls.{responseOut, started, loadStarted, verifyStarted, runOf};
+ghost use Rattle.c_steps.specs.Steps.{steppedOf, scratchStepped};
 ghost use Rattle.c_functions.specs.Calls.{arrayRun, scratchRun, loadRunOf, arrayLoadRun, scratchLoadRun, verifyRunOf, arrayVerifyRun};
 ghost use Rattle.c_functions.specs.Calls.{scratchVerifyRun, loadOf, arrayLoad, wantedLoad, scratchLoad, verifyFileOf};
 ghost use Rattle.c_functions.specs.Calls.{arrayVerifyFile, wantedVerifyFile, scratchVerifyFile, writtenOf, fileLeft, fileRead};
@@ -193,13 +194,7 @@ pub fn stepped(l: LoaderNumbers, value: u16, wanted: &[u8], scratch: &mut [u8]) 
     ensures { λ r. ⌜ (r ≡ steppedOf l value (now (wanted .entry)) (now (scratch .entry)))
         × (now (scratch .exit) ≡ scratchStepped l value (now (wanted .entry)) (now (scratch .entry))) ⌝ }
 {
-    let g = loader_steps::front::step(c_records::records::loader_in(l), value, wanted, scratch);
-    let saying = g.saying;
-    let moved = g.loader;
-    ResponseNumbers {
-        turn: c_records::records::saying_out(saying),
-        loader: c_records::records::loader_back(l, moved),
-    }
+    c_steps::stepped(l, value, wanted, scratch)
 }
 
 // The same where the host keeps the record: it is taken out, moved on by value, and stored back.

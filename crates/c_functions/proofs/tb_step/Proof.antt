@@ -40,7 +40,7 @@ use denote.Triple.Clauses.{ensured, lasts}
 use denote.Triple.Table.{entered, cited}
 use denote.Triple.Walked.{says, Stays, stay-ref, stay-none, stay-none-slice, gave-slice, goes-none-slice, goes-gave-slice, walkOf, AllGo, goes-none, goes-ref, Walks, ends-at, walked, walk-meets}
 use denote.Exit.{yes}
-use Rattle.c_functions.specs.Calls.{steppedOf, scratchStepped}
+use Rattle.c_steps.specs.Steps.{steppedOf, scratchStepped}
 use Rattle.c_records.specs.declared.LoaderNumbers.{LoaderNumbers}
 use Rattle.c_records.specs.declared.ResponseNumbers.{ResponseNumbers}
 use Rattle.c_records.proofs.LoaderNumbers as L

@@ -1,3 +1,4 @@
+-- `c_steps::typed` meets its contract.
 use borrow.Author.Needs.{needs}
 use mathlib.Core.Path.{_≡_, ap, _∙_}
 use Rattle.units.specs.Units.{lent}
@@ -5,9 +6,9 @@ use Rattle.loader.specs.declared.Loader.{Loader}
 use Rattle.loader.specs.declared.Response.{Response}
 use Rattle.loader_steps.specs.Front.{stepResponse, scratchLeft}
 use Rattle.c_records.specs.Records.{loaderIn, sayingOut, loaderBack}
-use Rattle.c_functions.specs.Calls.{steppedOf, scratchStepped}
-use Rattle.c_functions.proofs.stepped.Statement.{statement}
-use Rattle.c_functions.proofs.stepped.Tie as tie
+use Rattle.c_steps.specs.Steps.{steppedOf, scratchStepped}
+use Rattle.c_steps.proofs.typed.Statement.{statement}
+use Rattle.c_steps.proofs.typed.Tie as tie
 
 loader-in-requires : tie.Need-loader-in-requires
 loader-in-requires c κs = search needs
@@ -39,8 +40,8 @@ returns c =
       c .before .before .before .before .before .step .ensures .1 .1 ∙ ap (λ (l : Loader). scratchLeft l (a .value) w sc) e,
     )
 
-pub stepped-spec : {M : Type 1} → statement M
-stepped-spec =
+pub typed-spec : {M : Type 1} → statement M
+typed-spec =
     tie.close
     (tie.spec
     loader-in-requires
