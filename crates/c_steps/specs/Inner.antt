@@ -15,8 +15,8 @@ use Rattle.c_records.specs.declared.LoaderNumbers.{LoaderNumbers}
 use Rattle.c_records.specs.declared.ResponseNumbers.{ResponseNumbers}
 use Rattle.c_steps.specs.declared.Next.{Next}
 
--- where a step leads: the record's stage, place and polls, and of the cycle that is out its kind, whether it is about the unit at the place,
--- and what it carries, the wanted unit or a command
+-- where a step leads: the record's stage, place and polls, and of the cycle that is out its kind, whether it is about the unit at the
+-- place, and what it carries, the wanted unit or a command
 abbrev pub gives : ℕ → ℕ → ℕ → ℕ → Bool → Bool → ℕ → Next
 gives stage place polls kind here own command =
     record { known = true; stage = stage; place = place; polls = polls; kind = kind; here = here; own = own; command = command }

@@ -26,8 +26,8 @@ ghost use Rattle.c_records.specs.Records.{loaderIn};
 ghost use Rattle.c_steps.specs.Steps.{steppedOf, scratchStepped};
 ghost use Rattle.c_steps.specs.Inner.{gives, GoesOn, onTo};
 
-// Where a step leads, if that is known here: the record's stage, place and polls, and the cycle that is out by its kind, whether it is about
-// the unit at the place, and what it carries, the wanted unit or a command.
+// Where a step leads, if that is known here: the record's stage, place and polls, and the cycle that is out by its kind, whether it is
+// about the unit at the place, and what it carries, the wanted unit or a command.
 struct Next {
     known: bool,
     stage: u8,
