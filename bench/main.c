@@ -507,6 +507,11 @@ static void ready_interrupted(void) {
     at.device.suspend = 3;
     size = times;
 }
+/* .. and 65,535 cycles. */
+static void ready_long_interrupted(void) {
+    ready_interrupted();
+    at.device.erase = 65535;
+}
 static void work_interrupted(const maker *m) {
     uint32_t addresses[READS];
     for (uint32_t i = 0; i < READS; i++)
@@ -576,6 +581,7 @@ static const struct {
     {"device 7, bytes: a run of 131,072, P and E 65,535", TB_BLOCK_MOST, 1, ready_longest, work_run_large, NULL},
     {"held: 512 bytes, an erase of 40, no interruption", 0, 1, ready_interrupted, work_interrupted, NULL},
     {"held: the same with four interruptions of 16 reads", 4, 1, ready_interrupted, work_interrupted, "the four interruptions alone"},
+    {"held: the same, an erase of 65,535", 4, 1, ready_long_interrupted, work_interrupted, NULL},
     {"load from a file of one block", 505, 1, ready_load, work_load, NULL},
     {"writer: one block", 505, TURNS, ready_file, work_write, NULL},
     {"writer: eight blocks", 4040, TURNS, ready_file, work_write, NULL},
