@@ -19,6 +19,13 @@ Exit status: 0 done, 2 a wrong call, 3 the library could not be built, 4 the fil
 "
 }
 
+# what was made on the way goes, whatever ends this call
+dist_drop() {
+    trap '' HUP INT TERM
+    rm -rf -- "$dist_work"
+    [ -z "$dist_new" ] || rm -f -- "$dist_new"
+}
+
 # the tree, its README in front too, and the sums of its files
 dist_tree() {
     mkdir -- "$1" || fail 4 "cannot make the folder $1"
@@ -53,10 +60,10 @@ dist_make() {
     tar --version 2>/dev/null | grep -q 'GNU tar' || fail 3 "there is no GNU tar: it is in the package tar"
     dist_work=$(mktemp -d) || fail 4 "cannot make a temporary folder"
     dist_new=''
-    trap 'trap "" HUP INT TERM; rm -rf -- "$dist_work"; [ -z "$dist_new" ] || rm -f -- "$dist_new"' EXIT
-    trap 'exit 129' HUP
-    trap 'exit 130' INT
-    trap 'exit 143' TERM
+    trap dist_drop EXIT
+    trap 'dist_drop; exit 129' HUP
+    trap 'dist_drop; exit 130' INT
+    trap 'dist_drop; exit 143' TERM
     dist_tree "$dist_work/$name"
     if [ "$out" = - ]; then
         dist_pack "$dist_work" "$name" || { [ $? != 141 ] || exit 141 && unwritten; }
