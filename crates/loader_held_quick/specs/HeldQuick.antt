@@ -10,6 +10,8 @@ use Rattle.common.specs.Choice.{if_then_else_}
 use Rattle.device.specs.declared.Device.{Device}
 use Rattle.units.specs.Units.{units}
 use Rattle.loader_run.specs.declared.Job.{Job}
+use Rattle.loader_run.specs.declared.Ran.{Ran}
+use Rattle.loader_held_run.specs.HeldRuns.{HeldLeft}
 use Rattle.loader_quick.specs.Quick.{heldUnits}
 use Rattle.loader_held.specs.Holds.{listed}
 use Rattle.loader_held_claims.specs.HeldMade.{waitsOf, interrupts, addedIn}
@@ -60,3 +62,7 @@ roomFor j array wanted bs ps room =
     if erases (j .device) (j .pins) (j .block) (units (j .device .part .word) wanted)
     (heldUnits (j .device .part) (j .block) array wanted) && interrupts ps 0 (j .device .erase)
     then roomIn (j .device .part .word) array bs room else room
+
+-- what such a run returned and left, as one
+abbrev pub heldAs : Ran → List ℕ → List ℕ → List ℕ → HeldLeft
+heldAs r array scratch room = record { ran = r; bytes = array; scratch = scratch; room = room }

@@ -30,7 +30,7 @@ ghost use Rattle.loader_held_claims.specs.HeldMade.{filledBy, interrupts, added
 ghost use Rattle.loader_held_claims.specs.HeldEnds.{addedTried, ranMore};
 ghost use Rattle.loader_held_ends.specs.HeldLent.{roomIn};
 ghost use Rattle.loader_held_quick.specs.HeldQuick.{NextListed, lowerOf, costAt, bareCount, turnedBy};
-ghost use Rattle.loader_held_quick.specs.HeldQuick.{erasingOf, extraOf, roomFor};
+ghost use Rattle.loader_held_quick.specs.HeldQuick.{erasingOf, extraOf, roomFor, heldAs};
 
 // What the interruptions of a load come to: the cycles that they add, and whether one stands in the place of the erase's last poll.
 struct Extra {
@@ -265,27 +265,18 @@ fn more(r: Ran, added: u64, turned: bool) -> Ran
 fn held_load(
     verify: bool,
     j: Job,
-    array: &mut [u8],
     wanted: &[u8],
-    scratch: &mut [u8],
     polls: &[u32],
     addresses: &[u32],
+    array: &mut [u8],
+    scratch: &mut [u8],
     room: &mut [u8],
 ) -> Ran
     requires { ⌜ (heldRunNumber j (length (now array)) (length (now wanted)) (length (now scratch)) (now addresses) (length (now room)) ≡ 0)
         × (j .work ≡ Load verify) ⌝ }
-    ensures result { λ r. ⌜ r
+    ensures { λ r. ⌜ heldAs r (now (array .exit)) (now (scratch .exit)) (now (room .exit))
         ≡ lentHeld j (now (array .entry)) (now (wanted .entry)) (now (scratch .entry)) (now (polls .entry)) (now (addresses .entry))
-        (now (room .entry)) .ran ⌝ }
-    ensures array_left { λ _. ⌜ now (array .exit)
-        ≡ lentHeld j (now (array .entry)) (now (wanted .entry)) (now (scratch .entry)) (now (polls .entry)) (now (addresses .entry))
-        (now (room .entry)) .bytes ⌝ }
-    ensures scratch_left { λ _. ⌜ now (scratch .exit)
-        ≡ lentHeld j (now (array .entry)) (now (wanted .entry)) (now (scratch .entry)) (now (polls .entry)) (now (addresses .entry))
-        (now (room .entry)) .scratch ⌝ }
-    ensures room_left { λ _. ⌜ now (room .exit)
-        ≡ lentHeld j (now (array .entry)) (now (wanted .entry)) (now (scratch .entry)) (now (polls .entry)) (now (addresses .entry))
-        (now (room .entry)) .room ⌝ }
+        (now (room .entry)) ⌝ }
 {
     let d = j.device;
     let part = d.part;
@@ -308,34 +299,22 @@ pub fn run_held_quick(
     addresses: &[u32],
     room: &mut [u8],
 ) -> Ran
-    ensures result { λ r. ⌜ r
+    ensures { λ r. ⌜ heldAs r (now (array .exit)) (now (scratch .exit)) (now (room .exit))
         ≡ lentHeld j (now (array .entry)) (now (wanted .entry)) (now (scratch .entry)) (now (polls .entry)) (now (addresses .entry))
-        (now (room .entry)) .ran ⌝ }
-    ensures array_left { λ _. ⌜ now (array .exit)
-        ≡ lentHeld j (now (array .entry)) (now (wanted .entry)) (now (scratch .entry)) (now (polls .entry)) (now (addresses .entry))
-        (now (room .entry)) .bytes ⌝ }
-    ensures scratch_left { λ _. ⌜ now (scratch .exit)
-        ≡ lentHeld j (now (array .entry)) (now (wanted .entry)) (now (scratch .entry)) (now (polls .entry)) (now (addresses .entry))
-        (now (room .entry)) .scratch ⌝ }
-    ensures room_left { λ _. ⌜ now (room .exit)
-        ≡ lentHeld j (now (array .entry)) (now (wanted .entry)) (now (scratch .entry)) (now (polls .entry)) (now (addresses .entry))
-        (now (room .entry)) .room ⌝ }
+        (now (room .entry)) ⌝ }
 {
     let s = j.state;
     let work = j.work;
-    let n = held_number(
-        j,
-        array.len(),
-        wanted.len(),
-        scratch.len(),
-        addresses,
-        room.len(),
-    );
+    let a = array.len();
+    let w = wanted.len();
+    let m = scratch.len();
+    let k = room.len();
+    let n = held_number(j, a, w, m, addresses, k);
     if n != 0 {
         return refused(n, s);
     }
     match work {
-        Work::Load(verify) => held_load(verify, j, array, wanted, scratch, polls, addresses, room),
+        Work::Load(verify) => held_load(verify, j, wanted, polls, addresses, array, scratch, room),
         Work::Verify => run_held(j, array, wanted, scratch, polls, addresses, room),
     }
 }

@@ -2,7 +2,7 @@ use borrow.Author.Needs.{needs}
 use mathlib.Core.Path.{_≡_, ap, _∙_}
 use Rattle.loader_run.specs.declared.Ran.{Ran}
 use Rattle.c_records.specs.Records.{ranOut}
-use Rattle.loader_held_run.specs.HeldRuns.{lentHeld}
+use Rattle.loader_held_run.specs.HeldRuns.{HeldLeft, lentHeld}
 use Rattle.c_held.specs.Helds.{heldRunOf, heldRunLeft}
 use Rattle.c_held.proofs.tb_held_run.Statement.{statement}
 use Rattle.c_held.proofs.tb_held_run.Tie as tie
@@ -37,8 +37,8 @@ returns c =
     let room = a .room .now in
     let e = c .before .before .before .before .before .before .before .before .before .before .before .job-in .ensures in
     let r = c .before .before .before .before .before .before .before .run-held-quick .ensures in (
-      c .ran-out .ensures ∙ ap (λ (x : Ran). ranOut (a .state) x) (r .0 ∙ (λ i. lentHeld (e i) xs w sc ps bs room .ran)),
-      (r .1 .0 ∙ (λ i. lentHeld (e i) xs w sc ps bs room .bytes), (r .1 .1 .0 ∙ (λ i. lentHeld (e i) xs w sc ps bs room .scratch), r .1 .1 .1 ∙ (λ i. lentHeld (e i) xs w sc ps bs room .room))),
+      c .ran-out .ensures ∙ ap (λ (x : Ran). ranOut (a .state) x) (ap (λ (x : HeldLeft). x .ran) r ∙ (λ i. lentHeld (e i) xs w sc ps bs room .ran)),
+      (ap (λ (x : HeldLeft). x .bytes) r ∙ (λ i. lentHeld (e i) xs w sc ps bs room .bytes), (ap (λ (x : HeldLeft). x .scratch) r ∙ (λ i. lentHeld (e i) xs w sc ps bs room .scratch), ap (λ (x : HeldLeft). x .room) r ∙ (λ i. lentHeld (e i) xs w sc ps bs room .room))),
     )
 
 pub tb-held-run-spec : {M : Type 1} → statement M

@@ -1,5 +1,6 @@
 use borrow.Author.Needs.{needs}
-use mathlib.Core.Path.{sym, _∙_}
+use mathlib.Core.Path.{sym, ap, _∙_}
+use Rattle.loader_held_run.specs.HeldRuns.{HeldLeft}
 use Rattle.loader_held_file.proofs.HeldFileLeaving.{short-file, told-made, told-refused}
 use Rattle.loader_held_file.proofs.load_held.Statement.{statement}
 use Rattle.loader_held_file.proofs.load_held.Tie as tie
@@ -31,7 +32,7 @@ returns : tie.Need-returns
 returns c =
     let a = c .before .before .before .before .before .before .before .before .before .before .before .before .before .before .before .before .before .before .before .before .before .before .before .before .before .args in
     let r = c .before .before .before .before .before .before .run-held-quick .ensures in
-    told-made (a .j) (a .array .now) (a .wanted .now) (a .scratch .now) (a .file .now) (a .asked) (a .polls .now) (a .addresses .now) (a .room .now) (sym (c .before .before .before .before .before .before .before .before .before .before .before .before .before .before .before .before .held-load-number .ensures) ∙ c .before .before .before .before .before .before .before .before .before .before .before .before .before .before .before .if1 .taken) _ (c .before .before .before .before .before .before .before .before .before .before .before .before .before .fill-file .ensures) _ _ _ _ (r .0) (r .1 .0) (r .1 .1 .0) (r .1 .1 .1)
+    told-made (a .j) (a .array .now) (a .wanted .now) (a .scratch .now) (a .file .now) (a .asked) (a .polls .now) (a .addresses .now) (a .room .now) (sym (c .before .before .before .before .before .before .before .before .before .before .before .before .before .before .before .before .held-load-number .ensures) ∙ c .before .before .before .before .before .before .before .before .before .before .before .before .before .before .before .if1 .taken) _ (c .before .before .before .before .before .before .before .before .before .before .before .before .before .fill-file .ensures) _ _ _ _ (ap (λ (x : HeldLeft). x .ran) r) (ap (λ (x : HeldLeft). x .bytes) r) (ap (λ (x : HeldLeft). x .scratch) r) (ap (λ (x : HeldLeft). x .room) r)
 
 refused-requires : tie.Need-refused-requires
 refused-requires c κs = search needs

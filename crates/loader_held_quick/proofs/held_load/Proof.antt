@@ -39,7 +39,7 @@ more-requires : tie.Need-more-requires
 more-requires c κs =
     let a = c .before .before .before .before .before .before .before .before .before .before .before .before .before .before .before .before .before .before .before .before .before .before .args in
     count-fits (a .j) (a .array .now) (a .wanted .now) (a .scratch .now) (a .addresses .now) (a .room .now) (c .before .before .before .before .before .before .before .before .before .before .before .before .before .before .before .before .before .before .before .before .before .before .pre .0) (a .verify) (c .before .before .before .before .before .before .before .before .before .before .before .before .before .before .before .before .before .before .before .before .before .before .pre .1) (c .is-turned .ensures .1)
-    (λ i. c .before .before .before .before .before .before .before .before .before .before .before .before .before .before .before .before .before .before .before .before .before .slice-known .given i .fits) (λ i. c .before .before .before .before .before .before .before .before .before .before .before .before .before .before .before .before .before .before .before .before .shared-slice-known .given i .fits) (λ i. c .before .before .before .before .before .before .before .before .before .before .before .before .before .before .before .before .slice-known3 .given i .fits) (a .polls .now) (c .before .before .before .before .before .before .run-quick .result) (c .before .before .before .before .before .before .before .before .before .before .before .interrupted .result) (c .before .before .before .before .before .before .run-quick .ensures .0) (c .before .before .before .before .before .before .before .before .before .before .before .interrupted .ensures .1 .1)
+    (λ i. c .before .before .before .before .before .before .before .before .before .before .before .before .before .before .before .before .before .before .slice-known .given i .fits) (λ i. c .before .before .before .before .before .before .before .before .before .before .before .before .before .before .before .before .before .before .before .before .before .shared-slice-known .given i .fits) (λ i. c .before .before .before .before .before .before .before .before .before .before .before .before .before .before .before .before .slice-known3 .given i .fits) (a .polls .now) (c .before .before .before .before .before .before .run-quick .result) (c .before .before .before .before .before .before .before .before .before .before .before .interrupted .result) (c .before .before .before .before .before .before .run-quick .ensures .0) (c .before .before .before .before .before .before .before .before .before .before .before .interrupted .ensures .1 .1)
 
 same-length : tie.Need-same-length
 same-length c = search needs
@@ -63,20 +63,19 @@ returns c =
     let z = c .before .before .before .before .before .before .before .before .before .before .before .before .before .before .before .before .before .before .before .before .before .before .before .pre .0 in
     let e = c .before .before .before .before .before .before .before .before .before .before .before .before .before .before .before .before .before .before .before .before .before .before .before .pre .1 in
     let t = c .before .is-turned .ensures .1 in
-    let bx : Bytes xs = λ i. c .before .before .before .before .before .before .before .before .before .before .before .before .before .before .before .before .before .before .before .before .before .before .slice-known .given i .fits in
-    let bw : Bytes w = λ i. c .before .before .before .before .before .before .before .before .before .before .before .before .before .before .before .before .before .before .before .before .before .shared-slice-known .given i .fits in
+    let bx : Bytes xs = λ i. c .before .before .before .before .before .before .before .before .before .before .before .before .before .before .before .before .before .before .before .slice-known .given i .fits in
+    let bw : Bytes w = λ i. c .before .before .before .before .before .before .before .before .before .before .before .before .before .before .before .before .before .before .before .before .before .before .shared-slice-known .given i .fits in
     let br : Bytes room = λ i. c .before .before .before .before .before .before .before .before .before .before .before .before .before .before .before .before .before .slice-known3 .given i .fits in
     let r = c .before .before .before .before .before .before .before .run-quick in
     let x = c .before .before .before .before .before .before .before .before .before .before .before .before .interrupted in
     let n : c .before .before .units-in .result ≡ length (units (j .device .part .word) w) = c .before .before .units-in .ensures ∙ sym (units-length (j .device .part .word) w) in
     let u : c .before .is-turned .result ≡ turnedBy (a .verify) (x .result .last) (length (units (j .device .part .word) w)) (j .device .erase) (r .result .count) =
-    c .before .is-turned .ensures .0 ∙ ap (λ (m : ℕ). turnedBy (a .verify) (x .result .last) m (j .device .erase) (r .result .count)) n in (
-      c .more .ensures ∙ held-ran j xs w sc bs room z (a .verify) e t bx bw br ps (r .result) (x .result) (c .before .is-turned .result) (r .ensures .0) (x .ensures .0) u,
-      (
-        r .ensures .1 .0 ∙ held-array j xs w sc bs room z (a .verify) e t bx bw br ps,
-        (r .ensures .1 .1 ∙ held-scratch j xs w sc bs room z (a .verify) e t bx bw br ps, x .ensures .1 .0 ∙ held-room j xs w sc bs room z (a .verify) e t bx bw br ps),
-      ),
-    )
+    c .before .is-turned .ensures .0 ∙ ap (λ (m : ℕ). turnedBy (a .verify) (x .result .last) m (j .device .erase) (r .result .count)) n in
+    let ran = c .more .ensures ∙ held-ran j xs w sc bs room z (a .verify) e t bx bw br ps (r .result) (x .result) (c .before .is-turned .result) (r .ensures .0) (x .ensures .0) u in
+    let bytes = r .ensures .1 .0 ∙ held-array j xs w sc bs room z (a .verify) e t bx bw br ps in
+    let left = r .ensures .1 .1 ∙ held-scratch j xs w sc bs room z (a .verify) e t bx bw br ps in
+    let filled = x .ensures .1 .0 ∙ held-room j xs w sc bs room z (a .verify) e t bx bw br ps in
+    λ i. record { ran = ran i; bytes = bytes i; scratch = left i; room = filled i }
 
 pub held-load-spec : {M : Type 1} → statement M
 held-load-spec =

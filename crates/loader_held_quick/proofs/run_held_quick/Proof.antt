@@ -1,8 +1,8 @@
 -- `loader_held_quick::run_held_quick` meets its contract.
-use mathlib.Core.Path.{_≡_, sym, ap, _∙_}
+use mathlib.Core.Path.{_≡_, sym, _∙_}
 use lib.ListN.{length}
 use borrow.Author.Needs.{needs}
-use Rattle.loader_held_run.specs.HeldRuns.{heldRunNumber, ranRefused, HeldLeft}
+use Rattle.loader_held_run.specs.HeldRuns.{heldRunNumber, ranRefused}
 use Rattle.loader_held_run.proofs.HeldLending.{held-refused}
 use Rattle.loader_held_quick.proofs.run_held_quick.Statement.{statement}
 use Rattle.loader_held_quick.proofs.run_held_quick.Tie as tie
@@ -17,10 +17,9 @@ returns : tie.Need-returns
 returns c =
     let a = c .before .before .before .before .before .before .before .before .before .before .args in
     let e : c .before .before .held-number .result ≡ heldRunNumber (a .j) (length (a .array .now)) (length (a .wanted .now)) (length (a .scratch .now)) (a .addresses .now) (length (a .room .now)) = c .before .before .held-number .ensures in
-    let m = held-refused (a .j) (a .array .now) (a .wanted .now) (a .scratch .now) (a .polls .now) (a .addresses .now) (a .room .now) (λ q. c .before .if1 .taken (e ∙ q)) in (
-      c .refused .ensures ∙ (λ i. ranRefused (e i) (a .j .state)) ∙ sym (ap (λ (r : HeldLeft). r .ran) m),
-      (sym (ap (λ (r : HeldLeft). r .bytes) m), (sym (ap (λ (r : HeldLeft). r .scratch) m), sym (ap (λ (r : HeldLeft). r .room) m))),
-    )
+    let m = held-refused (a .j) (a .array .now) (a .wanted .now) (a .scratch .now) (a .polls .now) (a .addresses .now) (a .room .now) (λ q. c .before .if1 .taken (e ∙ q)) in
+    let ran = c .refused .ensures ∙ (λ i. ranRefused (e i) (a .j .state)) in
+    (λ i. record { ran = ran i; bytes = a .array .now; scratch = a .scratch .now; room = a .room .now }) ∙ sym m
 
 enum-known-work : tie.Need-enum-known-work
 enum-known-work c = search needs
@@ -56,7 +55,7 @@ same-length-6 : tie.Need-same-length-6
 same-length-6 c = search needs
 
 returns-3 : tie.Need-returns-3
-returns-3 c = search needs
+returns-3 c = let r = c .before .before .before .before .before .before .run-held .ensures in λ i. record { ran = r .0 i; bytes = r .1 .0 i; scratch = r .1 .1 .0 i; room = r .1 .1 .1 i }
 
 pub run-held-quick-spec : {M : Type 1} → statement M
 run-held-quick-spec =
