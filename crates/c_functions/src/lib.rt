@@ -100,15 +100,16 @@ pub extern "C" fn tb_cycle(
             if bus.kind == 0 {
                 if state.mode == 0 {
                     let unit = units::get_unit(device.word == 1, array, bus.address as usize);
-                    return c_ordinary::shown(state, unit);
+                    return c_ordinary::rested(state, 1, unit, state.mode, state.status, 0);
                 }
                 if state.mode == 1 {
-                    return c_ordinary::shown(state, units::wide(state.status));
+                    let unit = units::wide(state.status);
+                    return c_ordinary::rested(state, 1, unit, state.mode, state.status, 0);
                 }
             }
             let set = c_ordinary::command_of(bus.kind, bus.data % 256, state.mode, state.status);
             if set.known {
-                return c_ordinary::quiet(state, set.mode, set.status, set.phase);
+                return c_ordinary::rested(state, 0, 0, set.mode, set.status, set.phase);
             }
         }
         let b = bus;

@@ -1,5 +1,5 @@
 -- A supplied cycle that leaves the array alone: what a poll and a write answer, by the state that steps 1 to 3 leave.
-use mathlib.Core.Path.{_≡_, refl, sym, ap, subst, _∙_}
+use mathlib.Core.Path.{_≡_, refl, sym, ap, _∙_}
 use mathlib.Core.Bool.{Bool, true, false}
 use mathlib.Core.List.{List}
 use Prim.Native.Nat.{ℕ, _%_}
@@ -9,7 +9,7 @@ use lib.Dec.{eqb}
 use borrow.Author.Tests.{eqb-true, eqb-false}
 use Rattle.common.specs.Choice.{if_then_else_}
 use Rattle.common.specs.Lists.{Bytes}
-use Rattle.common.proofs.Choice.{if-false, unlike}
+use Rattle.common.proofs.Choice.{if-false}
 use Rattle.units.specs.Units.{units}
 use Rattle.device.specs.declared.Device.{Device}
 use Rattle.model_types.specs.declared.Kind.the-variants.{Read, Write, Idle}
@@ -34,8 +34,7 @@ use Rattle.c_cycle.specs.declared.StateNumbers.{StateNumbers}
 use Rattle.c_cycle.specs.declared.BusNumbers.{BusNumbers}
 use Rattle.c_cycle.specs.declared.AnswerNumbers.{AnswerNumbers}
 use Rattle.c_ordinary.specs.Ordinary.{Ordinary}
-use Rattle.c_operations.specs.Operations.{Moves, unmovedAs, seenIn, shownIn}
-use Rattle.c_operations.specs.declared.Moved.{Moved}
+use Rattle.c_operations.specs.Operations.{seenIn, shownIn}
 use Rattle.c_ordinary.proofs.Passing.{Stands}
 use Rattle.c_ordinary.proofs.Passing as passing
 
@@ -54,7 +53,7 @@ module _ (d : DeviceNumbers) (n : StateNumbers) (b : BusNumbers) (xs rs : List �
   unfolding stateBack
   goes-back u = if-false (noState n) n (stateOut u) there
 
-  told-by : (reply : Reply) (u : State) (seen v : ℕ) → decideJudged D S C ≡ decidedAs reply u Nothing
+  pub told-by : (reply : Reply) (u : State) (seen v : ℕ) → decideJudged D S C ≡ decidedAs reply u Nothing
       → answerOut n (record { seen = seenOf reply (units (D .part .word) xs); state = u }) ≡ record { seen = seen; value = v; state = stateBack n u }
       → Told d n b xs rs (record { seen = seen; value = v; state = stateOut u })
   told-by reply u seen v e f =
@@ -87,11 +86,3 @@ module _ (d : DeviceNumbers) (n : StateNumbers) (b : BusNumbers) (xs rs : List �
       (passing.up-kind d n b xs rs o S T h Write (passing.kind-is d n b xs rs o S T h 1 e)
       ∙ ap (λ (x : Action). decideWrite x D S C (settledAs T Nothing)) f ∙ if-false (isRefuse a) _ _ q)
       refl
-
--- what is not known here promises nothing
-pub none : {A : Type 0} (r : Moved) → r ≡ unmovedAs → r .known ≡ true → A
-none r e k = absurd (unlike (sym (ap (λ (m : Moved). m .known) (sym e) ∙ k)))
-
--- what is answered, by the move that it is
-pub moves-by : (d : DeviceNumbers) (n : StateNumbers) (b : BusNumbers) (r m : Moved) → r ≡ m → Moves d n b m → Moves d n b r
-moves-by d n b r m e f = subst (λ (x : Moved). Moves d n b x) (sym e) f

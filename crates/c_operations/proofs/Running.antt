@@ -31,7 +31,7 @@ use Rattle.c_cycle.specs.declared.BusNumbers.{BusNumbers}
 use Rattle.c_cycle.proofs.Border.{state-numbers}
 use Rattle.c_ordinary.specs.Ordinary.{Ordinary}
 use Rattle.c_ordinary.proofs.Passing.{Stands}
-use Rattle.c_operations.specs.Operations.{Running, phaseOf, movedAs, pollAs, writeAs, seenIn, shownIn}
+use Rattle.c_operations.specs.Operations.{Running, phaseOf, polledAs, writtenAs, seenIn, shownIn}
 use Rattle.c_operations.proofs.Moving.{Told, polls, writes}
 
 -- what is busy is an operation under way, not suspended, and awaits nothing
@@ -46,16 +46,16 @@ pending Suspended e = absurd (unlike (sym e))
 
 -- a program that is running, and an erase, by the numbers
 module _ (d : DeviceNumbers) (n : StateNumbers) (m : n .mode ≡ 1) (u : n .suspend ≡ 0) (l : n .status % 8 ≡ 0) (r : n .status / 64 ≡ 0) (k : 0 < n .left) (i : n .address < sizeOf (deviceIn d .part)) where
-  runs : noState n ≡ false → isBusy (phaseOf n) ≡ true → isSuspending (phaseOf n) ≡ false → n .left ≤ mostLeft (deviceIn d) (phaseOf n) → Running d n
-  runs t b h q = record { there = t; busy = b; unheld = h; mode = m; low = l; unready = r; more = k; most = q; inside = i }
+  runs : noState n ≡ false → isBusy (phaseOf n) ≡ true → isSuspending (phaseOf n) ≡ false → n .left ≤ mostLeft (deviceIn d) (phaseOf n) → ((n .phase ≡ 3 → ⊥) → n .phase ≡ 4) → Running d n
+  runs t b h q e = record { there = t; busy = b; unheld = h; mode = m; low = l; unready = r; more = k; most = q; inside = i; erases = e }
 
   pub programming : n .phase ≡ 3 → n .left ≤ d .program → Running d n
   unfolding noState strayData straySuspend phaseIn
-  programming p q = runs (simp (m, p, u, and-none (not (eqb (n .data) 0)))) (simp p) (simp p) (simp p q)
+  programming p q = runs (simp (m, p, u, and-none (not (eqb (n .data) 0)))) (simp p) (simp p) (simp p q) (λ f. absurd (f p))
 
   pub erasing : n .phase ≡ 4 → n .data ≡ 0 → n .left ≤ d .erase → Running d n
   unfolding noState strayData straySuspend phaseIn
-  erasing p z q = runs (simp (m, p, u, z)) (simp p) (simp p) (simp p q)
+  erasing p z q = runs (simp (m, p, u, z)) (simp p) (simp p) (simp p q) (λ f. p)
 
 module _ (d : DeviceNumbers) (n : StateNumbers) (r : Running d n) where
   abbrev ph : Phase
@@ -107,7 +107,7 @@ module _ (d : DeviceNumbers) (n : StateNumbers) (b : BusNumbers) (xs rs : List �
   stands = record { typed = is-going d n r; good = is-proper d n r; enough = enough; settled = settled }
 
   -- for code: a poll
-  pub polled : eqb (b .kind) 1 ≡ false → Told d n b xs rs (movedAs n (pollAs n (b .kind) (n .status) (n .phase) (n .suspend) (n .left - 1)))
+  pub polled : eqb (b .kind) 1 ≡ false → Told d n b xs rs (polledAs n (b .kind) (n .status) (n .phase) (n .suspend) (n .left - 1))
   polled z =
       let t = polls d n b xs rs o S T stands (r .there) refl z in
       ((λ i. record { seen = seenIn (b .kind); value = shownIn (b .kind) (n .status); state = back i }) ∙ t .0, t .1)
@@ -116,7 +116,7 @@ module _ (d : DeviceNumbers) (n : StateNumbers) (b : BusNumbers) (xs rs : List �
       back = (λ i. record { mode = sym (r .mode) i; status = n .status; phase = n .phase; suspend = n .suspend; left = n .left - 1; «data» = n .data; address = n .address; wear = n .wear }) ∙ sym (out-again d n r (n .left - 1))
 
   -- for code: B0H while an erase is busy
-  pub suspends : b .kind ≡ 1 → n .phase ≡ 4 → b .data % 256 ≡ 0xB0 → Told d n b xs rs (movedAs n (writeAs 1 (n .status) 6 (d .suspend) (n .left - 1) 0 (n .address)))
+  pub suspends : b .kind ≡ 1 → n .phase ≡ 4 → b .data % 256 ≡ 0xB0 → Told d n b xs rs (writtenAs (n .wear) 1 (n .status) 6 (d .suspend) (n .left - 1) 0 (n .address))
   unfolding phaseIn whileErasing
   suspends k p e =
       let erases : phaseOf n ≡ Erasing = simp p in

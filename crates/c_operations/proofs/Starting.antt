@@ -1,6 +1,6 @@
--- The second write of a program, with VPP not low, SR.3 clear and the address not locked: the program starts.
+-- The second write of a program and of an erase, with VPP not low, SR.3 clear and the address not locked: the operation starts.
 use mathlib.Core.Path.{_≡_, refl, sym, ap, _∙_}
-use mathlib.Core.Bool.{true, false, not}
+use mathlib.Core.Bool.{Bool, true, false, not}
 use mathlib.Core.List.{List}
 use Prim.Native.Nat.{ℕ, _/_, _%_}
 use native.Mathlib.Omega.{arith}
@@ -10,70 +10,114 @@ use lib.Bits.{bitAnd}
 use borrow.Author.Tests.{eq-eqb, le-ltb}
 use Rattle.common.proofs.Choice.{and-none}
 use Rattle.units.specs.Units.{carried}
+use Rattle.device.specs.Parts.{blockOf}
 use Rattle.device.specs.declared.Device.{Device}
 use Rattle.model_types.specs.declared.Mode.the-variants.{Status}
-use Rattle.model_types.specs.declared.Phase.the-variants.{DataAwaited, Programming}
-use Rattle.model_types.specs.declared.Action.the-variants.{Store}
+use Rattle.model_types.specs.declared.Phase.the-variants.{EraseAwaited, DataAwaited, Programming, Erasing}
+use Rattle.model_types.specs.declared.Phase.{Phase}
+use Rattle.model_types.specs.declared.Action.{Action}
+use Rattle.model_types.specs.declared.Action.the-variants.{Confirm, Store}
 use Rattle.model_types.specs.declared.Effect.the-variants.{Nothing}
 use Rattle.model_types.specs.declared.State.{State}
 use Rattle.model_types.specs.declared.Cycle.{Cycle}
 use Rattle.model_levels.specs.Levels.{rpLow, vppLow, locked}
 use Rattle.model_states.specs.States.{proper, improper}
+use Rattle.model_commands.specs.Commands.{actionOf, afterErase, isRefuse}
 use Rattle.model_operation.specs.Settling.{settledAs, settleOf}
-use Rattle.model_actions.specs.Performed.{dataOf, unsupplied, startedOf, performedOf}
+use Rattle.model_types.specs.Status.{SR4, SR5}
+use Rattle.model_actions.specs.Performed.{dataOf, unsupplied, wearBy, startedOf, performedOf}
 use Rattle.model_judge.specs.Judging.{shortResidue}
 use Rattle.c_cycle.specs.Values.{deviceIn, modeIn, phaseIn, strayData, straySuspend, noState, wearIn, stateIn, stateOut, cycleIn}
 use Rattle.c_cycle.specs.declared.DeviceNumbers.{DeviceNumbers}
 use Rattle.c_cycle.specs.declared.StateNumbers.{StateNumbers}
 use Rattle.c_cycle.specs.declared.BusNumbers.{BusNumbers}
 use Rattle.c_ordinary.proofs.Passing.{Stands}
-use Rattle.c_operations.specs.Operations.{Awaiting, Supplied, movedAs, writeAs}
+use Rattle.c_operations.specs.Operations.{Awaiting, Starting, Supplied, writtenAs, wornIn}
 use Rattle.c_operations.proofs.Moving.{Told, writes}
 
-module _ (d : DeviceNumbers) (n : StateNumbers) (b : BusNumbers) (xs rs : List ℕ) (o : Supplied d b (length xs)) (r : Awaiting n) where
+-- what is awaited: the confirm of an erase, or the data of a program; its number, and the phase
+abbrev pub awaits : Bool → ℕ
+awaits true = 1
+awaits false = 2
+
+abbrev awaited : Bool → Phase
+awaited true = EraseAwaited
+awaited false = DataAwaited
+
+module _ (d : DeviceNumbers) (n : StateNumbers) (b : BusNumbers) (xs rs : List ℕ) (o : Supplied d b (length xs)) (t : Bool) (g : Starting d n b (awaits t)) where
+  abbrev r : Awaiting n (awaits t)
+  r = g .awaiting
+
   abbrev D : Device
   D = deviceIn d
 
   abbrev C : Cycle
   C = cycleIn b
 
-  abbrev S : State
-  S = record { mode = Status; status = n .status; phase = DataAwaited; left = 0; address = 0; wear = wearIn (n .wear) }
+  abbrev S : Phase → State
+  S ph = record { mode = Status; status = n .status; phase = ph; left = 0; address = 0; wear = wearIn (n .wear) }
+
+  there-by : (u : Bool) → n .phase ≡ awaits u → noState n ≡ false
+  unfolding noState strayData straySuspend
+  there-by true e = simp (r .mode, e, r .unit, r .suspend)
+  there-by false e = simp (r .mode, e, r .unit, r .suspend)
 
   there : noState n ≡ false
-  unfolding noState strayData straySuspend
-  there = simp (r .mode, r .phase, r .unit, r .suspend)
+  there = there-by t (r .phase)
 
-  typed : stateIn n ≡ S
+  typed-by : (u : Bool) → n .phase ≡ awaits u → stateIn n ≡ S (awaited u)
   unfolding stateIn modeIn phaseIn
-  typed = simp (there, r .mode, r .phase, r .left, r .address)
+  typed-by true e = simp (there, r .mode, e, r .left, r .address)
+  typed-by false e = simp (there, r .mode, e, r .left, r .address)
 
-  is-proper : improper D S ≡ false
+  proper-by : (u : Bool) → improper D (S (awaited u)) ≡ false
   unfolding improper proper
-  is-proper =
+  proper-by true =
+      let top : n .status / 128 ≡ 1 = omega (arith, r .ready) in
+      simp (top, r .ready, r .low)
+  proper-by false =
       let top : n .status / 128 ≡ 1 = omega (arith, r .ready) in
       simp (top, r .ready, r .low)
 
-  enough : (k : ℕ) → shortResidue (D .part) S C k ≡ false
+  enough : (u : Bool) (k : ℕ) → shortResidue (D .part) (S (awaited u)) C k ≡ false
   unfolding shortResidue
-  enough k = simp (o .ordinary .up, o .supplied)
+  enough u k = simp (o .ordinary .up, o .supplied)
 
-  settled : settleOf (D .part) S (C .pins) ≡ settledAs S Nothing
+  settled-by : (u : Bool) → settleOf (D .part) (S (awaited u)) (C .pins) ≡ settledAs (S (awaited u)) Nothing
   unfolding settleOf
-  settled = simp (o .ordinary .up, o .supplied)
+  settled-by true = simp (o .ordinary .up, o .supplied)
+  settled-by false = simp (o .ordinary .up, o .supplied)
 
-  -- the state of a program that starts
-  abbrev T : State
-  T = record { mode = Status; status = bitAnd (n .status) 0x7F; phase = Programming (dataOf (D .part) C); left = d .program; address = b .address; wear = wearIn (n .wear) }
+  stands : Stands d n b (S (awaited t)) (S (awaited t))
+  stands = record { typed = typed-by t (r .phase); good = proper-by t; enough = enough t; settled = settled-by t }
 
-  starts : n .status / 8 % 2 ≡ 0 → locked (D .part) C ≡ false → performedOf Store D C S ≡ T
+  -- the operation starts
+  starts : (ph : Phase) (time bit : ℕ) → startedOf (D .part) C (S (awaited t)) ph time bit
+      ≡ record { mode = Status; status = bitAnd (n .status) 0x7F; phase = ph; left = time; address = b .address; wear = wearBy ph (D .part) C (wearIn (n .wear)) }
   unfolding startedOf unsupplied
-  starts e l = simp (o .supplied, e, l)
+  starts ph time bit = simp (o .supplied, g .clear, g .unlocked)
 
-  pub started : b .kind ≡ 1 → n .status / 8 % 2 ≡ 0 → locked (D .part) C ≡ false → (unit : ℕ) → unit ≡ carried (D .part .word) (b .data)
-      → Told d n b xs rs (movedAs n (writeAs 1 (bitAnd (n .status) 0x7F) 3 0 (d .program) unit (b .address)))
-  unfolding dataOf
-  started k e l unit u =
-      let t = writes d n b xs rs (o .ordinary) S S (record { typed = typed; good = is-proper; enough = enough; settled = settled }) there k Store refl refl in
-      let f = starts e l in
-      ((λ i. movedAs n (writeAs 1 (bitAnd (n .status) 0x7F) 3 0 (d .program) (u i) (b .address))) ∙ (λ i. record { seen = 0; value = 0; state = stateOut (sym f i) }) ∙ t .0, t .1)
+  tells : b .kind ≡ 1 → (a : Action) → actionOf (D .part) (awaited t) (b .data % 256) ≡ a → isRefuse a ≡ false
+      → Told d n b xs rs (record { seen = 0; value = 0; state = stateOut (performedOf a D C (S (awaited t))) })
+  tells k a e f = writes d n b xs rs (o .ordinary) (S (awaited t)) (S (awaited t)) stands there k a e f
+
+-- for code: a program
+pub started : (d : DeviceNumbers) (n : StateNumbers) (b : BusNumbers) (xs rs : List ℕ) → Supplied d b (length xs) → Starting d n b 2 → b .kind ≡ 1
+    → (unit : ℕ) → unit ≡ carried (deviceIn d .part .word) (b .data)
+    → Told d n b xs rs (writtenAs (n .wear) 1 (bitAnd (n .status) 0x7F) 3 0 (d .program) unit (b .address))
+unfolding dataOf
+started d n b xs rs o g k unit u =
+    let t = tells d n b xs rs o false g k Store refl refl in
+    let f = starts d n b xs rs o false g (Programming (dataOf (deviceIn d .part) (cycleIn b))) (d .program) SR4 in
+    ((λ i. writtenAs (n .wear) 1 (bitAnd (n .status) 0x7F) 3 0 (d .program) (u i) (b .address)) ∙ (λ i. record { seen = 0; value = 0; state = stateOut (sym f i) }) ∙ t .0, t .1)
+
+-- for code: an erase, which is counted at its block
+pub confirmed : (d : DeviceNumbers) (n : StateNumbers) (b : BusNumbers) (xs rs : List ℕ) → Supplied d b (length xs) → Starting d n b 1 → b .kind ≡ 1
+    → b .data % 256 ≡ 0xD0 → (k : ℕ) → k ≡ blockOf (deviceIn d .part) (b .address)
+    → Told d n b xs rs (writtenAs (wornIn (n .wear) k) 1 (bitAnd (n .status) 0x7F) 4 0 (d .erase) 0 (b .address))
+unfolding afterErase
+confirmed d n b xs rs o g w e k u =
+    let asks : afterErase (b .data % 256) ≡ Confirm = simp e in
+    let t = tells d n b xs rs o true g w Confirm asks refl in
+    let f = starts d n b xs rs o true g Erasing (d .erase) SR5 in
+    ((λ i. writtenAs (wornIn (n .wear) (u i)) 1 (bitAnd (n .status) 0x7F) 4 0 (d .erase) 0 (b .address)) ∙ (λ i. record { seen = 0; value = 0; state = stateOut (sym f i) }) ∙ t .0, t .1)

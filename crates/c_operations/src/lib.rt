@@ -4,77 +4,49 @@ use c_cycle::AnswerNumbers;
 use c_cycle::BusNumbers;
 use c_cycle::DeviceNumbers;
 use c_cycle::StateNumbers;
+use c_cycle::counts;
 use c_cycle::states::answer_out;
 use c_cycle::states::cycle_in;
 use c_cycle::states::device_in;
 use c_cycle::states::part_in;
-use c_cycle::states::phase_in;
-use c_cycle::states::pins_in;
 use c_cycle::states::state_in;
-use c_ordinary::is_ordinary;
-use device::Part;
+use c_ordinary::is_level;
+use c_ordinary::is_timed;
+use c_ordinary::key_of;
+use c_ordinary::rested;
+use c_ordinary::units_of;
 use model_levels::locked;
-use model_levels::vpp_low;
-use model_types::Effect;
-use model_types::Phase;
 ghost use mathlib.Core.Path.{_≡_};
 ghost use mathlib.Core.Bool.{true, false};
-ghost use lib.Dec.{eqb, ltb};
-ghost use Rattle.device.specs.Parts.{sizeOf};
-ghost use Rattle.model_levels.specs.Levels.{vppLow, locked};
+ghost use mathlib.Core.List.{List};
+ghost use Prim.Native.Nat.{ℕ, _≤_, _<_};
+ghost use lib.ListN.{length};
+ghost use lib.Dec.{eqb};
+ghost use lib.Bits.{bitAnd};
+ghost use Rattle.units.specs.Units.{units, spare};
+ghost use Rattle.device.specs.Parts.{sizeOf, blockOf};
+ghost use Rattle.model_levels.specs.Levels.{locked};
+ghost use Rattle.model.specs.Inner.{doneOf};
 ghost use Rattle.c_cycle.specs.Values.{deviceIn, cycleIn};
 ghost use Rattle.c_cycle.specs.Answers.{cycled, arrayCycled};
-ghost use Rattle.c_operations.specs.Operations.{Running, Suspending, Suspended, Awaiting, Supplied, movedAs, Moves, unmovedAs};
-ghost use Rattle.c_operations.specs.Operations.{Ending, endIn, endedAs};
-ghost use Rattle.units.specs.Units.{units, spare};
-ghost use Rattle.model_operation.specs.Settling.{finishOf};
-ghost use Rattle.model.specs.Inner.{doneOf};
-ghost use Rattle.c_operations.specs.Operations.{pollAs, writeAs, seenIn, shownIn};
+ghost use Rattle.c_operations.specs.Operations.{Running, Ending, Suspending, Suspended, Awaiting, Starting, Supplied, endIn};
+ghost use Rattle.c_operations.specs.Operations.{seenIn, shownIn, polledAs, writtenAs, wornIn, givenAs, endedAs};
 
-// What is seen of a cycle, and what it leaves, where that is known here.
-struct Moved {
-    known: bool,
-    seen: u8,
-    value: u16,
-    mode: u8,
-    status: u8,
-    phase: u8,
-    suspend: u8,
-    left: u16,
-    data: u16,
-    address: u32,
-}
-
-// An operation is running, in a proper state.
+// An operation is running, in a proper state, where its address is inside the array.
 fn is_running(d: DeviceNumbers, n: StateNumbers) -> bool
-    ensures { λ r. ⌜ (r ≡ true → Running d n) ⌝ }
+    ensures { λ r. ⌜ (r ≡ true → n .address < sizeOf (deviceIn d .part) → Running d n) ⌝ }
 {
-    if n.mode != 1 {
-        return false;
-    }
+    let key = key_of(n);
     if n.left == 0 {
         return false;
     }
-    if n.suspend != 0 {
+    if key % 2048 != 1 {
         return false;
     }
-    if n.status % 8 != 0 {
-        return false;
-    }
-    if n.status / 64 != 0 {
-        return false;
-    }
-    let part = part_in(d.number, d.word);
-    if device::size(part) <= n.address as usize {
-        return false;
-    }
-    if n.phase == 3 {
+    if key / 16384 == 12 {
         return n.left <= d.program;
     }
-    if n.phase != 4 {
-        return false;
-    }
-    (n.data == 0) & (n.left <= d.erase)
+    (key / 16384 == 16) & (n.data == 0) & (n.left <= d.erase)
 }
 
 // The typed way.
@@ -115,41 +87,11 @@ fn shown_in(kind: u8, status: u8) -> u16
     0
 }
 
-// VPP is low, for the part that the numbers name.
-fn vpp_down(n: DeviceNumbers, b: BusNumbers) -> bool
-    ensures { λ r. ⌜ r ≡ vppLow (deviceIn n .part) (cycleIn b .pins) ⌝ }
-{
-    let part = part_in(n.number, n.word);
-    vpp_low(part, pins_in(b.rp, b.wp, b.vpp))
-}
-
-// The address is inside the array, for the part that the numbers name.
-fn is_inside(d: DeviceNumbers, address: u32) -> bool
-    ensures { λ r. ⌜ r ≡ ltb address (sizeOf (deviceIn d .part)) ⌝ }
-{
-    let part = part_in(d.number, d.word);
-    (address as usize) < device::size(part)
-}
-
-// A suspend is under way, in a proper state.
+// A suspend is under way, in a proper state, where its address is inside the array.
 fn is_suspending(d: DeviceNumbers, n: StateNumbers) -> bool
-    ensures { λ r. ⌜ (r ≡ true → Suspending d n) ⌝ }
+    ensures { λ r. ⌜ (r ≡ true → n .address < sizeOf (deviceIn d .part) → Suspending d n) ⌝ }
 {
-    if n.phase != 6 {
-        return false;
-    }
-    if n.mode != 1 {
-        return false;
-    }
-    if n.data != 0 {
-        return false;
-    }
-    if n.status % 8 != 0 {
-        return false;
-    }
-    if n.status / 64 != 0 {
-        return false;
-    }
+    let key = key_of(n);
     if n.suspend == 0 {
         return false;
     }
@@ -159,130 +101,62 @@ fn is_suspending(d: DeviceNumbers, n: StateNumbers) -> bool
     if n.left == 0 {
         return false;
     }
-    if d.erase < n.left {
+    if key % 2048 != 1 {
         return false;
     }
-    is_inside(d, n.address)
+    (key / 16384 % 1024 == 24) & (n.data == 0) & (n.left <= d.erase)
 }
 
-// An erase is suspended, in a proper state.
+// An erase is suspended, in a proper state, where its address is inside the array.
 fn is_suspended(d: DeviceNumbers, n: StateNumbers) -> bool
-    ensures { λ r. ⌜ (r ≡ true → Suspended d n) ⌝ }
+    ensures { λ r. ⌜ (r ≡ true → n .address < sizeOf (deviceIn d .part) → Suspended d n) ⌝ }
 {
-    if n.phase != 5 {
-        return false;
-    }
-    if 1 < n.mode {
-        return false;
-    }
-    if n.data != 0 {
-        return false;
-    }
-    if n.suspend != 0 {
-        return false;
-    }
-    if n.status % 8 != 0 {
-        return false;
-    }
-    if n.status / 64 != 3 {
-        return false;
-    }
+    let key = key_of(n);
     if n.left == 0 {
         return false;
     }
-    if d.erase < n.left {
+    if 1 < key % 2048 {
         return false;
     }
-    is_inside(d, n.address)
+    (key / 16384 == 23) & (n.data == 0) & (n.left <= d.erase)
 }
 
-// Data are awaited, in a proper state.
-fn is_awaiting(n: StateNumbers) -> bool
-    ensures { λ r. ⌜ (r ≡ true → Awaiting n) ⌝ }
+// A second write is awaited, in a proper state.
+fn is_awaiting(n: StateNumbers, phase: u8) -> bool
+    requires { ⌜ phase < 3 ⌝ }
+    ensures { λ r. ⌜ (r ≡ true → Awaiting n phase) ⌝ }
 {
-    if n.phase != 2 {
+    if (n.left as u64) + 65536 * (n.data as u64) + 4294967296 * (n.address as u64) != 0 {
         return false;
     }
-    if n.mode != 1 {
-        return false;
-    }
-    if n.data != 0 {
-        return false;
-    }
-    if n.suspend != 0 {
-        return false;
-    }
-    if n.status % 8 != 0 {
-        return false;
-    }
-    if n.status / 64 != 2 {
-        return false;
-    }
-    if n.left != 0 {
-        return false;
-    }
-    n.address == 0
+    let key = key_of(n);
+    (key % 2048 == 1) & (key / 16384 == 4 * (phase as u32) + 2)
 }
 
-// What is seen, and the state that a cycle leaves.
-fn answer_by(n: StateNumbers, m: Moved) -> AnswerNumbers
-    ensures { λ r. ⌜ r ≡ movedAs n m ⌝ }
+// A read or an idle cycle, by what it leaves.
+fn polled(n: StateNumbers, kind: u8, status: u8, phase: u8, suspend: u8, left: u16) -> AnswerNumbers
+    ensures { λ r. ⌜ r ≡ polledAs n kind status phase suspend left ⌝ }
 {
     let w = n.wear;
     AnswerNumbers {
-        seen: m.seen,
-        value: m.value,
+        seen: seen_in(kind),
+        value: shown_in(kind, status),
         state: StateNumbers {
-            mode: m.mode,
-            status: m.status,
-            phase: m.phase,
-            suspend: m.suspend,
-            left: m.left,
-            data: m.data,
-            address: m.address,
+            mode: 1,
+            status: status,
+            phase: phase,
+            suspend: suspend,
+            left: left,
+            data: n.data,
+            address: n.address,
             wear: w,
         },
     }
 }
 
-// A cycle that is not known here.
-fn unmoved() -> Moved
-    ensures { λ r. ⌜ r ≡ unmovedAs ⌝ }
-{
-    Moved {
-        known: false,
-        seen: 0,
-        value: 0,
-        mode: 0,
-        status: 0,
-        phase: 0,
-        suspend: 0,
-        left: 0,
-        data: 0,
-        address: 0,
-    }
-}
-
-// A read or an idle cycle, by what it leaves.
-fn poll_leaves(n: StateNumbers, kind: u8, status: u8, phase: u8, suspend: u8, left: u16) -> Moved
-    ensures { λ r. ⌜ r ≡ pollAs n kind status phase suspend left ⌝ }
-{
-    Moved {
-        known: true,
-        seen: seen_in(kind),
-        value: shown_in(kind, status),
-        mode: 1,
-        status: status,
-        phase: phase,
-        suspend: suspend,
-        left: left,
-        data: n.data,
-        address: n.address,
-    }
-}
-
 // A write, by what it leaves.
-fn write_leaves(
+fn written(
+    n: StateNumbers,
     mode: u8,
     status: u8,
     phase: u8,
@@ -290,78 +164,199 @@ fn write_leaves(
     left: u16,
     unit: u16,
     address: u32,
-) -> Moved
-    ensures { λ r. ⌜ r ≡ writeAs mode status phase suspend left unit address ⌝ }
+) -> AnswerNumbers
+    ensures { λ r. ⌜ r ≡ writtenAs (n .wear) mode status phase suspend left unit address ⌝ }
 {
-    Moved {
-        known: true,
+    let w = n.wear;
+    AnswerNumbers {
         seen: 0,
         value: 0,
-        mode: mode,
-        status: status,
-        phase: phase,
-        suspend: suspend,
-        left: left,
-        data: unit,
-        address: address,
+        state: StateNumbers {
+            mode: mode,
+            status: status,
+            phase: phase,
+            suspend: suspend,
+            left: left,
+            data: unit,
+            address: address,
+            wear: w,
+        },
     }
 }
 
-// A read or an idle cycle while an operation goes on, or a suspend is under way.
-fn poll_of(d: DeviceNumbers, n: StateNumbers, b: BusNumbers) -> Moved
-    ensures { λ r. ⌜ (r .known ≡ true → eqb (b .kind) 1 ≡ false → Moves d n b r) ⌝ }
+// A start of an erase, counted at its block.
+fn worn(n: StateNumbers, time: u16, address: u32, block: u8) -> AnswerNumbers
+    ensures { λ r. ⌜ r ≡ writtenAs (wornIn (n .wear) block) 1 (bitAnd (n .status) 0x7F) 4 0 time 0 address ⌝ }
+{
+    let w = n.wear;
+    let more = model_types::counts::wear_out(counts::wear_in(w), block);
+    let m = counts::wear_out(more);
+    AnswerNumbers {
+        seen: 0,
+        value: 0,
+        state: StateNumbers {
+            mode: 1,
+            status: n.status & 0x7F,
+            phase: 4,
+            suspend: 0,
+            left: time,
+            data: 0,
+            address: address,
+            wear: m,
+        },
+    }
+}
+
+// What is seen of an end, and the state at rest.
+fn ended(n: StateNumbers, kind: u8) -> AnswerNumbers
+    ensures { λ r. ⌜ r ≡ endedAs n kind ⌝ }
+{
+    let status = n.status | 0x80;
+    rested(n, seen_in(kind), shown_in(kind, status), 1, status, 0)
+}
+
+// An end: the array, and what is seen.
+fn end_cycle(d: DeviceNumbers, n: StateNumbers, kind: u8, array: &mut [u8]) -> AnswerNumbers
+    requires { ⌜ (Running d n) × (length (units (deviceIn d .part .word) (now array)) ≡ sizeOf (deviceIn d .part)) ⌝ }
+    ensures result { λ r. ⌜ r ≡ endedAs n kind ⌝ }
+    ensures array_left { λ _. ⌜ ((rs : List ℕ) → units (deviceIn d .part .word) (now (array .exit))
+        ≡ doneOf (endIn (deviceIn d .part) n) (deviceIn d .part) rs (units (deviceIn d .part .word) (now (array .entry)))) ⌝ }
+    ensures array_spare { λ _. ⌜ spare (deviceIn d .part .word) (now (array .exit))
+        ≡ spare (deviceIn d .part .word) (now (array .entry)) ⌝ }
+{
+    if n.phase == 3 {
+        units::program_unit(d.word == 1, array, n.address as usize, n.data);
+        return ended(n, kind);
+    }
+    let part = part_in(d.number, d.word);
+    let span = device::block_span(part, device::block_of(part, n.address));
+    units::erase_units(d.word == 1, array, span.first, span.length);
+    ended(n, kind)
+}
+
+// A unit of the array, and the state as it was.
+fn given(n: StateNumbers, v: u16) -> AnswerNumbers
+    ensures { λ r. ⌜ r ≡ givenAs n v ⌝ }
+{
+    AnswerNumbers {
+        seen: 1,
+        value: v,
+        state: n,
+    }
+}
+
+// Another block than that of the erase.
+fn is_elsewhere(d: DeviceNumbers, n: StateNumbers, address: u32) -> bool
+    ensures { λ r. ⌜ (r ≡ true → eqb (blockOf (deviceIn d .part) address) (blockOf (deviceIn d .part) (n .address)) ≡ false) ⌝ }
+{
+    let part = part_in(d.number, d.word);
+    device::block_of(part, address) != device::block_of(part, n.address)
+}
+
+// A read while an erase is suspended.
+fn held_read(
+    d: DeviceNumbers,
+    n: StateNumbers,
+    b: BusNumbers,
+    array: &mut [u8],
+    residue: &[u8],
+) -> AnswerNumbers
+    requires { ⌜ (Supplied d b (length (now array))) × (n .address < sizeOf (deviceIn d .part)) × (b .kind ≡ 0) ⌝ }
+    ensures result { λ r. ⌜ r ≡ cycled d n b (now (array .entry)) (now (residue .entry)) ⌝ }
+    ensures array_left { λ _. ⌜ now (array .exit) ≡ arrayCycled d n b (now (array .entry)) (now (residue .entry)) ⌝ }
+{
+    if is_suspended(d, n) {
+        if n.mode == 1 {
+            return given(n, units::wide(n.status));
+        }
+        if is_elsewhere(d, n, b.address) {
+            return given(n, units::get_unit(d.word == 1, array, b.address as usize));
+        }
+    }
+    let a = typed(d, n, b, array, residue);
+    a
+}
+
+// A read or an idle cycle.
+fn poll_cycle(
+    d: DeviceNumbers,
+    n: StateNumbers,
+    b: BusNumbers,
+    array: &mut [u8],
+    residue: &[u8],
+) -> AnswerNumbers
+    requires { ⌜ (Supplied d b (length (now array))) × (n .address < sizeOf (deviceIn d .part)) × (eqb (b .kind) 1 ≡ false) ⌝ }
+    ensures result { λ r. ⌜ r ≡ cycled d n b (now (array .entry)) (now (residue .entry)) ⌝ }
+    ensures array_left { λ _. ⌜ now (array .exit) ≡ arrayCycled d n b (now (array .entry)) (now (residue .entry)) ⌝ }
 {
     if is_running(d, n) {
         if n.left == 1 {
-            return unmoved();
+            return end_cycle(d, n, b.kind, array);
         }
-        return poll_leaves(n, b.kind, n.status, n.phase, n.suspend, n.left - 1);
+        return polled(n, b.kind, n.status, n.phase, n.suspend, n.left - 1);
     }
     if is_suspending(d, n) {
         if n.suspend == 1 {
-            return poll_leaves(n, b.kind, n.status | 0xC0, 5, 0, n.left);
+            return polled(n, b.kind, n.status | 0xC0, 5, 0, n.left);
         }
-        return poll_leaves(n, b.kind, n.status, 6, n.suspend - 1, n.left);
+        return polled(n, b.kind, n.status, 6, n.suspend - 1, n.left);
     }
-    unmoved()
+    if b.kind == 0 {
+        return held_read(d, n, b, array, residue);
+    }
+    let a = typed(d, n, b, array, residue);
+    a
 }
 
 // A write while an erase is suspended.
-fn suspended_write(d: DeviceNumbers, n: StateNumbers, b: BusNumbers) -> Moved
-    ensures { λ r. ⌜ (r .known ≡ true → b .kind ≡ 1 → Moves d n b r) ⌝ }
+fn suspended_write(
+    d: DeviceNumbers,
+    n: StateNumbers,
+    b: BusNumbers,
+    array: &mut [u8],
+    residue: &[u8],
+) -> AnswerNumbers
+    requires { ⌜ (Supplied d b (length (now array))) × (n .address < sizeOf (deviceIn d .part)) × (b .kind ≡ 1) ⌝ }
+    ensures result { λ r. ⌜ r ≡ cycled d n b (now (array .entry)) (now (residue .entry)) ⌝ }
+    ensures array_left { λ _. ⌜ now (array .exit) ≡ arrayCycled d n b (now (array .entry)) (now (residue .entry)) ⌝ }
 {
     if is_suspended(d, n) {
         let byte = b.data % 256;
         if byte == 0xFF {
-            return write_leaves(0, n.status, 5, 0, n.left, 0, n.address);
+            return written(n, 0, n.status, 5, 0, n.left, 0, n.address);
         }
         if byte == 0x70 {
-            return write_leaves(1, n.status, 5, 0, n.left, 0, n.address);
+            return written(n, 1, n.status, 5, 0, n.left, 0, n.address);
         }
         if byte == 0xD0 {
-            return write_leaves(1, n.status & 0x3F, 4, 0, n.left, 0, n.address);
+            return written(n, 1, n.status & 0x3F, 4, 0, n.left, 0, n.address);
         }
     }
-    unmoved()
+    let a = typed(d, n, b, array, residue);
+    a
 }
 
 // B0H while an erase is busy.
-fn suspend_write(d: DeviceNumbers, n: StateNumbers, b: BusNumbers) -> Moved
-    ensures { λ r. ⌜ (r .known ≡ true → b .kind ≡ 1 → Moves d n b r) ⌝ }
+fn suspend_write(
+    d: DeviceNumbers,
+    n: StateNumbers,
+    b: BusNumbers,
+    array: &mut [u8],
+    residue: &[u8],
+) -> AnswerNumbers
+    requires { ⌜ (Supplied d b (length (now array))) × (n .address < sizeOf (deviceIn d .part)) × (b .kind ≡ 1) × (n .phase ≡ 4) ⌝ }
+    ensures result { λ r. ⌜ r ≡ cycled d n b (now (array .entry)) (now (residue .entry)) ⌝ }
+    ensures array_left { λ _. ⌜ now (array .exit) ≡ arrayCycled d n b (now (array .entry)) (now (residue .entry)) ⌝ }
 {
-    if n.phase != 4 {
-        return unmoved();
+    if b.data % 256 == 0xB0 {
+        if n.left != 1 {
+            if is_running(d, n) {
+                return written(n, 1, n.status, 6, d.suspend, n.left - 1, 0, n.address);
+            }
+        }
     }
-    if b.data % 256 != 0xB0 {
-        return unmoved();
-    }
-    if n.left == 1 {
-        return unmoved();
-    }
-    if is_running(d, n) {
-        return write_leaves(1, n.status, 6, d.suspend, n.left - 1, 0, n.address);
-    }
-    unmoved()
+    let a = typed(d, n, b, array, residue);
+    a
 }
 
 // The address of this write is locked.
@@ -372,128 +367,111 @@ fn is_locked(d: DeviceNumbers, b: BusNumbers) -> bool
     locked(part, cycle_in(b))
 }
 
-// The second write of a program that starts.
-fn data_write(d: DeviceNumbers, n: StateNumbers, b: BusNumbers) -> Moved
-    ensures { λ r. ⌜ (r .known ≡ true → b .kind ≡ 1 → Moves d n b r) ⌝ }
+// A second write may start its operation: SR.3 is clear, and the address not locked.
+fn is_starting(d: DeviceNumbers, n: StateNumbers, b: BusNumbers, phase: u8) -> bool
+    requires { ⌜ phase < 3 ⌝ }
+    ensures { λ r. ⌜ (r ≡ true → Starting d n b phase) ⌝ }
 {
-    if is_awaiting(n) {
-        if n.status / 8 % 2 != 0 {
-            return unmoved();
+    if is_awaiting(n, phase) {
+        if n.status / 8 % 2 == 0 {
+            return !is_locked(d, b);
         }
-        if is_locked(d, b) {
-            return unmoved();
-        }
-        let unit = units::carry(d.word == 1, b.data);
-        return write_leaves(1, n.status & 0x7F, 3, 0, d.program, unit, b.address);
-    }
-    unmoved()
-}
-
-// A write, by the phase.
-fn write_of(d: DeviceNumbers, n: StateNumbers, b: BusNumbers) -> Moved
-    ensures { λ r. ⌜ (r .known ≡ true → b .kind ≡ 1 → Moves d n b r) ⌝ }
-{
-    if n.phase == 2 {
-        return data_write(d, n, b);
-    }
-    if n.phase == 5 {
-        return suspended_write(d, n, b);
-    }
-    suspend_write(d, n, b)
-}
-
-// A cycle, by its kind.
-fn move_of(d: DeviceNumbers, n: StateNumbers, b: BusNumbers) -> Moved
-    ensures { λ r. ⌜ (r .known ≡ true → Moves d n b r) ⌝ }
-{
-    if b.kind == 1 {
-        return write_of(d, n, b);
-    }
-    poll_of(d, n, b)
-}
-
-// An ordinary cycle, of a kind that there is, with VPP not low.
-fn is_supplied(d: DeviceNumbers, b: BusNumbers, len: usize) -> bool
-    ensures { λ r. ⌜ (r ≡ true → Supplied d b len) ⌝ }
-{
-    if 2 < b.kind {
-        return false;
-    }
-    if is_ordinary(d, b, len) {
-        return !vpp_down(d, b);
     }
     false
 }
 
-// A read or an idle cycle that ends an operation.
-fn is_ending(d: DeviceNumbers, n: StateNumbers, b: BusNumbers) -> bool
-    ensures { λ r. ⌜ (r ≡ true → Ending d n b) ⌝ }
-{
-    if n.left != 1 {
-        return false;
-    }
-    if b.kind == 1 {
-        return false;
-    }
-    is_running(d, n)
-}
-
-// What an end does to the array.
-fn end_of(ph: Phase, part: Part, address: u32) -> Effect
-    ensures { λ r. ⌜ r ≡ finishOf ph part address ⌝ }
-{
-    match ph {
-        Phase::Free => Effect::Nothing,
-        Phase::EraseAwaited => Effect::Nothing,
-        Phase::DataAwaited => Effect::Nothing,
-        Phase::Programming(b) => Effect::Program(address, b),
-        Phase::Erasing => Effect::Erase(device::block_of(part, address)),
-        Phase::Suspending(_) => Effect::Nothing,
-        Phase::Suspended => Effect::Nothing,
-    }
-}
-
-// What is seen of an end, and the state at rest.
-fn ended(n: StateNumbers, kind: u8) -> AnswerNumbers
-    ensures { λ r. ⌜ r ≡ endedAs n kind ⌝ }
-{
-    let status = n.status | 0x80;
-    let w = n.wear;
-    AnswerNumbers {
-        seen: seen_in(kind),
-        value: shown_in(kind, status),
-        state: StateNumbers {
-            mode: 1,
-            status: status,
-            phase: 0,
-            suspend: 0,
-            left: 0,
-            data: 0,
-            address: 0,
-            wear: w,
-        },
-    }
-}
-
-// An end: the array, and what is seen.
-fn end_cycle(
+// The second write of a program that starts.
+fn data_write(
     d: DeviceNumbers,
     n: StateNumbers,
-    kind: u8,
+    b: BusNumbers,
     array: &mut [u8],
     residue: &[u8],
 ) -> AnswerNumbers
-    ensures result { λ r. ⌜ r ≡ endedAs n kind ⌝ }
-    ensures array_left { λ _. ⌜ units (deviceIn d .part .word) (now (array .exit))
-        ≡ doneOf (endIn (deviceIn d .part) n) (deviceIn d .part) (units (deviceIn d .part .word) (now (residue .entry)))
-        (units (deviceIn d .part .word) (now (array .entry))) ⌝ }
-    ensures array_spare { λ _. ⌜ spare (deviceIn d .part .word) (now (array .exit))
-        ≡ spare (deviceIn d .part .word) (now (array .entry)) ⌝ }
+    requires { ⌜ (Supplied d b (length (now array))) × (n .address < sizeOf (deviceIn d .part)) × (b .kind ≡ 1) ⌝ }
+    ensures result { λ r. ⌜ r ≡ cycled d n b (now (array .entry)) (now (residue .entry)) ⌝ }
+    ensures array_left { λ _. ⌜ now (array .exit) ≡ arrayCycled d n b (now (array .entry)) (now (residue .entry)) ⌝ }
 {
-    let part = part_in(d.number, d.word);
-    let effect = end_of(phase_in(n.phase, n.data, n.suspend), part, n.address);
-    model::put(effect, part, array, residue);
-    ended(n, kind)
+    if is_starting(d, n, b, 2) {
+        let unit = units::carry(d.word == 1, b.data);
+        return written(n, 1, n.status & 0x7F, 3, 0, d.program, unit, b.address);
+    }
+    let a = typed(d, n, b, array, residue);
+    a
+}
+
+// D0H that starts an erase.
+fn confirm_write(
+    d: DeviceNumbers,
+    n: StateNumbers,
+    b: BusNumbers,
+    array: &mut [u8],
+    residue: &[u8],
+) -> AnswerNumbers
+    requires { ⌜ (Supplied d b (length (now array))) × (n .address < sizeOf (deviceIn d .part)) × (b .kind ≡ 1) ⌝ }
+    ensures result { λ r. ⌜ r ≡ cycled d n b (now (array .entry)) (now (residue .entry)) ⌝ }
+    ensures array_left { λ _. ⌜ now (array .exit) ≡ arrayCycled d n b (now (array .entry)) (now (residue .entry)) ⌝ }
+{
+    if b.data % 256 == 0xD0 {
+        if is_starting(d, n, b, 1) {
+            let part = part_in(d.number, d.word);
+            return worn(n, d.erase, b.address, device::block_of(part, b.address));
+        }
+    }
+    let a = typed(d, n, b, array, residue);
+    a
+}
+
+// A write, by the phase.
+fn write_cycle(
+    d: DeviceNumbers,
+    n: StateNumbers,
+    b: BusNumbers,
+    array: &mut [u8],
+    residue: &[u8],
+) -> AnswerNumbers
+    requires { ⌜ (Supplied d b (length (now array))) × (n .address < sizeOf (deviceIn d .part)) × (b .kind ≡ 1) ⌝ }
+    ensures result { λ r. ⌜ r ≡ cycled d n b (now (array .entry)) (now (residue .entry)) ⌝ }
+    ensures array_left { λ _. ⌜ now (array .exit) ≡ arrayCycled d n b (now (array .entry)) (now (residue .entry)) ⌝ }
+{
+    if n.phase == 1 {
+        return confirm_write(d, n, b, array, residue);
+    }
+    if n.phase == 2 {
+        return data_write(d, n, b, array, residue);
+    }
+    if n.phase == 4 {
+        return suspend_write(d, n, b, array, residue);
+    }
+    suspended_write(d, n, b, array, residue)
+}
+
+// An operation goes on at this VPP, where the levels are good.
+fn is_high(number: u8, vpp: u32) -> bool
+    ensures { λ r. ⌜ (r ≡ true → (11400 ≤ vpp → ⊥) → (4500 ≤ vpp) × (5 ≤ number)) ⌝ }
+{
+    if 11400 <= vpp {
+        return true;
+    }
+    (4500 <= vpp) & (5 <= number)
+}
+
+// The units of the array where the cycle is ordinary and VPP not low; none otherwise.
+fn supplied_units(d: DeviceNumbers, b: BusNumbers, len: usize) -> usize
+    ensures { λ r. ⌜ (0 < r → (b .kind ≤ 2 → Supplied d b len) × (r ≡ sizeOf (deviceIn d .part))) ⌝ }
+{
+    if !is_timed(d) {
+        return 0;
+    }
+    if is_level(b.rp, b.oe, b.wp, b.vpp) {
+        if is_high(d.number, b.vpp) {
+            let units = units_of(d.number, d.word, len);
+            if (b.address as usize) < units {
+                return units;
+            }
+        }
+    }
+    0
 }
 
 // Every cycle but an ordinary one at rest.
@@ -507,16 +485,14 @@ pub fn other_cycle(
     ensures result { λ r. ⌜ r ≡ cycled device state bus (now (array .entry)) (now (residue .entry)) ⌝ }
     ensures array_left { λ _. ⌜ now (array .exit) ≡ arrayCycled device state bus (now (array .entry)) (now (residue .entry)) ⌝ }
 {
-    let m = move_of(device, state, bus);
-    if m.known {
-        if is_supplied(device, bus, array.len()) {
-            return answer_by(state, m);
+    if (state.address as usize) < supplied_units(device, bus, array.len()) {
+        if bus.kind == 1 {
+            return write_cycle(device, state, bus, array, residue);
+        }
+        if bus.kind < 3 {
+            return poll_cycle(device, state, bus, array, residue);
         }
     }
-    if is_ending(device, state, bus) {
-        if is_supplied(device, bus, array.len()) {
-            return end_cycle(device, state, bus.kind, array, residue);
-        }
-    }
-    typed(device, state, bus, array, residue)
+    let a = typed(device, state, bus, array, residue);
+    a
 }

@@ -50,7 +50,7 @@ use Rattle.c_cycle.specs.declared.StateNumbers.{StateNumbers}
 use Rattle.c_cycle.specs.declared.BusNumbers.{BusNumbers}
 use Rattle.c_cycle.specs.declared.AnswerNumbers.{AnswerNumbers}
 use Rattle.c_cycle.proofs.Border.{mode-number}
-use Rattle.c_ordinary.specs.Ordinary.{Ordinary, Resting, quietAs, shownAs, commandedOf}
+use Rattle.c_ordinary.specs.Ordinary.{Ordinary, Resting, restedAs, commandedOf}
 use Rattle.c_ordinary.specs.declared.Commanded.{Commanded}
 use Rattle.c_ordinary.proofs.Passing.{Stands}
 use Rattle.c_ordinary.proofs.Passing as passing
@@ -143,22 +143,19 @@ module _ (d : DeviceNumbers) (n : StateNumbers) (b : BusNumbers) (xs rs : List �
   mode-back : modeOut (modeIn (n .mode)) ≡ n .mode
   mode-back = mode-number (n .mode) (r .mode)
 
-  numbers : stateOut S ≡ n
-  numbers = λ i. record { mode = mode-back i; status = n .status; phase = sym (r .phase) i; suspend = sym (r .suspend) i; left = sym (r .left) i; «data» = sym (r .unit) i; address = sym (r .address) i; wear = n .wear }
-
   -- for code: an idle cycle, and reads
-  pub idle-answer : b .kind ≡ 2 → quietAs n (n .mode) (n .status) 0 ≡ cycled d n b xs rs
-  idle-answer e = (λ i. quietAs n (sym mode-back i) (n .status) 0) ∙ sym (quiet-state S) ∙ answered Quiet S (idle e)
+  pub idle-answer : b .kind ≡ 2 → restedAs n 0 0 (n .mode) (n .status) 0 ≡ cycled d n b xs rs
+  idle-answer e = (λ i. restedAs n 0 0 (sym mode-back i) (n .status) 0) ∙ sym (quiet-state S) ∙ answered Quiet S (idle e)
 
   pub shown-answer : (reply : Reply) (v : ℕ) → decideJudged D S C ≡ decidedAs reply S Nothing
       → answerOut n (record { seen = seenOf reply (units word xs); state = S }) ≡ record { seen = 1; value = v; state = stateBack n S }
-      → shownAs n v ≡ cycled d n b xs rs
-  shown-answer reply v e f = (λ i. shownAs (sym numbers i) v) ∙ (λ i. record { seen = 1; value = v; state = sym (goes-back n r S) i }) ∙ sym f ∙ answered reply S e
+      → restedAs n 1 v (n .mode) (n .status) 0 ≡ cycled d n b xs rs
+  shown-answer reply v e f = (λ i. restedAs n 1 v (sym mode-back i) (n .status) 0) ∙ (λ i. record { seen = 1; value = v; state = sym (goes-back n r S) i }) ∙ sym f ∙ answered reply S e
 
-  pub array-answer : b .kind ≡ 0 → n .mode ≡ 0 → (v : ℕ) → v ≡ getD (units word xs) (b .address) 0 → shownAs n v ≡ cycled d n b xs rs
+  pub array-answer : b .kind ≡ 0 → n .mode ≡ 0 → (v : ℕ) → v ≡ getD (units word xs) (b .address) 0 → restedAs n 1 v (n .mode) (n .status) 0 ≡ cycled d n b xs rs
   array-answer e m v f = shown-answer (GivesArray (b .address)) v (reads-array e m) (λ i. record { seen = 1; value = sym f i; state = stateBack n S })
 
-  pub status-answer : b .kind ≡ 0 → n .mode ≡ 1 → (v : ℕ) → v ≡ n .status → shownAs n v ≡ cycled d n b xs rs
+  pub status-answer : b .kind ≡ 0 → n .mode ≡ 1 → (v : ℕ) → v ≡ n .status → restedAs n 1 v (n .mode) (n .status) 0 ≡ cycled d n b xs rs
   status-answer e m v f = shown-answer (Gives (n .status)) v (reads-status e m) (λ i. record { seen = 1; value = sym f i; state = stateBack n S })
 
   -- a command
@@ -170,13 +167,13 @@ module _ (d : DeviceNumbers) (n : StateNumbers) (b : BusNumbers) (xs rs : List �
 
   -- such an answer, where the command is known
   abbrev Answers : Commanded → Type 0
-  Answers t = t .known ≡ true → (quietAs n (t .mode) (t .status) (t .phase) ≡ cycled d n b xs rs) × (Bytes xs → xs ≡ arrayCycled d n b xs rs)
+  Answers t = t .known ≡ true → (restedAs n 0 0 (t .mode) (t .status) (t .phase) ≡ cycled d n b xs rs) × (Bytes xs → xs ≡ arrayCycled d n b xs rs)
 
   byte-is : (v : ℕ) (a : Action) → firstWrite (D .part) v ≡ a → eqb (b .data % 256) v ≡ true → firstWrite (D .part) (b .data % 256) ≡ a
   byte-is v a f e = ap (λ (x : ℕ). firstWrite (D .part) x) (eqb-true (b .data % 256) v e) ∙ f
 
-  cleared : quietAs n (n .mode) (bitAnd (n .status) 0xC7) 0 ≡ record { seen = 0; value = 0; state = stateOut (performedOf Clear D C S) }
-  cleared = λ i. quietAs n (sym mode-back i) (bitAnd (n .status) 0xC7) 0
+  cleared : restedAs n 0 0 (n .mode) (bitAnd (n .status) 0xC7) 0 ≡ record { seen = 0; value = 0; state = stateOut (performedOf Clear D C S) }
+  cleared = λ i. restedAs n 0 0 (sym mode-back i) (bitAnd (n .status) 0xC7) 0
 
   -- for code: what is no read
   pub command-told : (t : Commanded) → t ≡ commandedOf (b .kind) (b .data % 256) (n .mode) (n .status) → Answers t

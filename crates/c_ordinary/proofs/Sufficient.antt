@@ -16,7 +16,7 @@ use Rattle.c_cycle.specs.Values.{numberIn, partIn, deviceIn, pinsIn}
 use Rattle.c_cycle.specs.declared.DeviceNumbers.{DeviceNumbers}
 use Rattle.c_cycle.specs.declared.StateNumbers.{StateNumbers}
 use Rattle.c_cycle.specs.declared.BusNumbers.{BusNumbers}
-use Rattle.c_ordinary.specs.Ordinary.{bytesFor, unitsFor, levelIn, ordinaryIn, restingIn, Ordinary, Resting}
+use Rattle.c_ordinary.specs.Ordinary.{bytesFor, unitsFor, levelIn, timedIn, ordinaryIn, keyOf, restingIn, Ordinary, Resting}
 
 -- a test that says no, and one that says yes, on the way to true
 past : (t x : Bool) → (if t then false else x) ≡ true → (t ≡ false) × (x ≡ true)
@@ -109,58 +109,62 @@ in-words =
     by-parts InWords (λ l. absurd (omega arith)) (λ l. absurd (omega arith)) (λ l. absurd (omega arith)) (λ l. absurd (omega arith))
     (λ l. (refl, refl, refl)) (λ l. (refl, refl, refl)) (λ l. (refl, refl, refl)) (λ l. (refl, refl, refl))
 
--- the part is known, so many bytes are its array, and an address is inside
-pub record Sized (number word len a : ℕ) : Type 0 where
+-- the part is known, so many bytes are its array, and it has m units
+pub record Sized (number word len m : ℕ) : Type 0 where
   pub known : unknownPart (partIn number word) ≡ false
   pub sized : lentIn (partIn number word .word) len ≡ sizeOf (partIn number word)
-  pub inside : a < sizeOf (partIn number word)
+  pub whole : m ≡ sizeOf (partIn number word)
 
-sized-bytes : (number len a : ℕ) → a < len → bytesFor number ≡ len → Sized number 0 len a
+sized-bytes : (number len : ℕ) → 0 < len → bytesFor number ≡ len → Sized number 0 len len
 unfolding numberIn lentIn
-sized-bytes number len a l e =
+sized-bytes number len l e =
     let p = in-bytes number (omega (arith, l, e)) in
-    record { known = p .0; sized = sym e ∙ sym (p .1); inside = omega (arith, l, e, p .1) }
+    record { known = p .0; sized = sym e ∙ sym (p .1); whole = sym e ∙ sym (p .1) }
 
-sized-words : (number len a : ℕ) → a < len / 2 → 5 ≤ number → bytesFor number ≡ len → Sized number 1 len a
+sized-words : (number len : ℕ) → 0 < len / 2 → 5 ≤ number → bytesFor number ≡ len → Sized number 1 len (len / 2)
 unfolding numberIn lentIn
-sized-words number len a l h e =
+sized-words number len l h e =
     let p = in-words number (omega (arith, l, e)) h in
     let even : len % 2 ≡ 0 = ap (λ (x : ℕ). x % 2) (sym e) ∙ p .2 in
     let half : len / 2 ≡ sizeOf (record { number = number; word = true }) = ap (λ (x : ℕ). x / 2) (sym e) ∙ sym (p .1) in
     let whole : lentIn true len ≡ len / 2 = simp even in
-    record { known = p .0; sized = whole ∙ half; inside = omega (arith, l, half) }
+    record { known = p .0; sized = whole ∙ half; whole = half }
 
-fits : (number word len a : ℕ) → a < unitsFor number word len → Sized number word len a
+-- for code: where there are units, they are those of the part
+pub fits : (number word len : ℕ) → 0 < unitsFor number word len → Sized number word len (unitsFor number word len)
 unfolding unitsFor
-fits number word len a l = go (eqb (bytesFor number) len) refl (eqb word 0) refl (eqb word 1) refl (ltb number 5) refl l
+fits number word len l = go (eqb (bytesFor number) len) refl (eqb word 0) refl (eqb word 1) refl (ltb number 5) refl l
   where
     go : (s : Bool) → eqb (bytesFor number) len ≡ s → (z : Bool) → eqb word 0 ≡ z → (o : Bool) → eqb word 1 ≡ o → (k : Bool) → ltb number 5 ≡ k
-        → a < (if not s then 0 else if z then len else if not o then 0 else if k then 0 else len / 2) → Sized number word len a
+        → 0 < (if not s then 0 else if z then len else if not o then 0 else if k then 0 else len / 2)
+        → Sized number word len (if not s then 0 else if z then len else if not o then 0 else if k then 0 else len / 2)
     go false e z f o g k h m = absurd (omega arith)
-    go true e true f o g k h m = subst (λ (w : ℕ). Sized number w len a) (sym (eqb-true word 0 f)) (sized-bytes number len a m (eqb-true (bytesFor number) len e))
+    go true e true f o g k h m = subst (λ (w : ℕ). Sized number w len len) (sym (eqb-true word 0 f)) (sized-bytes number len m (eqb-true (bytesFor number) len e))
     go true e false f false g k h m = absurd (omega arith)
     go true e false f true g true h m = absurd (omega arith)
-    go true e false f true g false h m = subst (λ (w : ℕ). Sized number w len a) (sym (eqb-true word 1 g)) (sized-words number len a m (ltb-false number 5 h) (eqb-true (bytesFor number) len e))
+    go true e false f true g false h m = subst (λ (w : ℕ). Sized number w len (len / 2)) (sym (eqb-true word 1 g)) (sized-words number len m (ltb-false number 5 h) (eqb-true (bytesFor number) len e))
 
 -- for code: a cycle that passes the test, of a kind that there is
 pub ordinary-is : (n : DeviceNumbers) (b : BusNumbers) (len : ℕ) → ordinaryIn n b len ≡ true → b .kind ≤ 2 → Ordinary n b len
-unfolding ordinaryIn unknownDevice
+unfolding ordinaryIn timedIn unknownDevice
 ordinary-is n b len e k =
-    let p = past (eqb (n .program) 0) _ e in
+    let x = past (not (timedIn n)) _ e in
+    let p = past (eqb (n .program) 0) _ (not-false (timedIn n) (x .0)) in
     let q = past (eqb (n .erase) 0) _ (p .1) in
     let r = past (eqb (n .suspend) 0) _ (q .1) in
-    let s = past (ltb 100 (n .suspend)) _ (r .1) in
-    let t = both (levelIn (b .rp) (b .oe) (b .wp) (b .vpp)) _ (s .1) in
+    let s = le-ltb 100 (n .suspend) (leb-true (n .suspend) 100 (r .1)) in
+    let t = both (levelIn (b .rp) (b .oe) (b .wp) (b .vpp)) _ (x .1) in
     let l = levelled (b .rp) (b .oe) (b .wp) (b .vpp) (t .0) in
-    let f = fits (n .number) (n .word) len (b .address) (ltb-true (b .address) (unitsFor (n .number) (n .word) len) (t .1)) in
+    let u = ltb-true (b .address) (unitsFor (n .number) (n .word) len) (t .1) in
+    let f = fits (n .number) (n .word) len (omega (arith, u)) in
     record {
       kind = k;
       oe = l .normal;
       up = l .up;
-      known = simp (f .known, p .0, q .0, r .0, s .0);
+      known = simp (f .known, p .0, q .0, r .0, s);
       pins = l .pins (deviceIn n .part);
       sized = f .sized;
-      inside = f .inside;
+      inside = omega (arith, u, f .whole);
     }
 
 -- for code: a state that passes the test
@@ -169,19 +173,20 @@ unfolding restingIn
 resting-is n e =
     let sum = n .left + 65536 * n .data + 4294967296 * n .address in
     let a = past (not (eqb sum 0)) _ e in
-    let b = past (not (eqb (n .phase) 0)) _ (a .1) in
-    let c = past (not (eqb (n .suspend) 0)) _ (b .1) in
-    let d = past (ltb 2 (n .mode)) _ (c .1) in
+    let d = past (ltb 2 (n .mode)) _ (a .1) in
     let z : n .left + 65536 * n .data + 4294967296 * n .address ≡ 0 = eqb-true sum 0 (not-false (eqb sum 0) (a .0)) in
-    let low = eqb (n .status % 8) 0 in
-    let ready = eqb (n .status / 64) 2 in
+    let low = eqb (keyOf n / 256 % 8) 0 in
+    let ready = eqb (keyOf n / 16384) 2 in
+    let m : n .mode ≤ 2 = ltb-false 2 (n .mode) (d .0) in
+    let l : keyOf n / 256 % 8 ≡ 0 = eqb-true (keyOf n / 256 % 8) 0 (and-left low ready (d .1)) in
+    let h : keyOf n / 16384 ≡ 2 = eqb-true (keyOf n / 16384) 2 (and-right low ready (d .1)) in
     record {
       address = omega (arith, z);
       left = omega (arith, z);
       unit = omega (arith, z);
-      phase = eqb-true (n .phase) 0 (not-false (eqb (n .phase) 0) (b .0));
-      suspend = eqb-true (n .suspend) 0 (not-false (eqb (n .suspend) 0) (c .0));
-      mode = ltb-false 2 (n .mode) (d .0);
-      low = eqb-true (n .status % 8) 0 (and-left low ready (d .1));
-      ready = eqb-true (n .status / 64) 2 (and-right low ready (d .1));
+      phase = omega (arith, h);
+      suspend = omega (arith, h);
+      mode = m;
+      low = omega (arith, l, h, m);
+      ready = omega (arith, h, m);
     }

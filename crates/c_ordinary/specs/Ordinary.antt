@@ -49,24 +49,31 @@ levelIn rp oe wp vpp =
     else if leb 4500 vpp then leb vpp 5500
     else leb vpp 1500
 
--- the test of an ordinary cycle on so many bytes, but for its kind
-unfoldable pub ordinaryIn : DeviceNumbers → BusNumbers → ℕ → Bool
-ordinaryIn n b len =
+-- the test of the times of a program, an erase and a suspend
+unfoldable pub timedIn : DeviceNumbers → Bool
+timedIn n =
     if eqb (n .program) 0 then false
     else if eqb (n .erase) 0 then false
     else if eqb (n .suspend) 0 then false
-    else if ltb 100 (n .suspend) then false
+    else leb (n .suspend) 100
+
+-- the test of an ordinary cycle on so many bytes, but for its kind
+unfoldable pub ordinaryIn : DeviceNumbers → BusNumbers → ℕ → Bool
+ordinaryIn n b len =
+    if not (timedIn n) then false
     else if levelIn (b .rp) (b .oe) (b .wp) (b .vpp) then ltb (b .address) (unitsFor (n .number) (n .word) len)
     else false
+
+-- the first four numbers of a state as one
+abbrev pub keyOf : StateNumbers → ℕ
+keyOf n = n .mode + 256 * n .status + 65536 * n .phase + 16777216 * n .suspend
 
 -- the test of a state at rest
 unfoldable pub restingIn : StateNumbers → Bool
 restingIn n =
     if not (eqb (n .left + 65536 * n .data + 4294967296 * n .address) 0) then false
-    else if not (eqb (n .phase) 0) then false
-    else if not (eqb (n .suspend) 0) then false
     else if ltb 2 (n .mode) then false
-    else eqb (n .status % 8) 0 && eqb (n .status / 64) 2
+    else eqb (keyOf n / 256 % 8) 0 && eqb (keyOf n / 16384) 2
 
 -- an ordinary cycle on so many bytes: a kind, OE# low, RP# up, a known device, good levels, an array of its size, an address inside
 pub record Ordinary (n : DeviceNumbers) (b : BusNumbers) (len : ℕ) : Type 0 where
@@ -89,18 +96,14 @@ pub record Resting (n : StateNumbers) : Type 0 where
   pub low : n .status % 8 ≡ 0
   pub ready : n .status / 64 ≡ 2
 
--- no data, and the state in another mode, status and phase
-abbrev pub quietAs : StateNumbers → ℕ → ℕ → ℕ → AnswerNumbers
-quietAs n m sr ph =
+-- what is seen, and the state at rest or with a second write awaited, in a mode, status and phase
+abbrev pub restedAs : StateNumbers → ℕ → ℕ → ℕ → ℕ → ℕ → AnswerNumbers
+restedAs n seen v m sr ph =
     record {
-      seen = 0;
-      value = 0;
+      seen = seen;
+      value = v;
       state = record { mode = m; status = sr; phase = ph; suspend = 0; left = 0; «data» = 0; address = 0; wear = n .wear };
     }
-
--- a value, and the state as it was
-abbrev pub shownAs : StateNumbers → ℕ → AnswerNumbers
-shownAs n v = record { seen = 1; value = v; state = n }
 
 -- a command that is known, by what it sets
 abbrev pub setsAs : ℕ → ℕ → ℕ → Commanded

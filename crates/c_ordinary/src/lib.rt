@@ -5,7 +5,8 @@ use c_cycle::BusNumbers;
 use c_cycle::DeviceNumbers;
 use c_cycle::StateNumbers;
 ghost use mathlib.Core.Path.{_≡_};
-ghost use Rattle.c_ordinary.specs.Ordinary.{bytesFor, unitsFor, levelIn, ordinaryIn, restingIn, quietAs, shownAs, setsAs, unsetAs};
+ghost use Prim.Native.Nat.{_<_};
+ghost use Rattle.c_ordinary.specs.Ordinary.{bytesFor, unitsFor, levelIn, timedIn, ordinaryIn, keyOf, restingIn, restedAs, setsAs, unsetAs};
 ghost use Rattle.c_ordinary.specs.Ordinary.{commandedOf};
 
 // What a command sets, and whether it is one of those that are known here.
@@ -34,7 +35,7 @@ fn bytes_of(number: u8) -> usize
 }
 
 // The units of a known part's array, where so many bytes are lent; none otherwise.
-fn units_of(number: u8, word: u8, len: usize) -> usize
+pub fn units_of(number: u8, word: u8, len: usize) -> usize
     ensures { λ r. ⌜ r ≡ unitsFor number word len ⌝ }
 {
     if bytes_of(number) != len {
@@ -53,7 +54,7 @@ fn units_of(number: u8, word: u8, len: usize) -> usize
 }
 
 // Levels that are good on every part, with RP# up and OE# low.
-fn is_level(rp: u8, oe: u8, wp: u8, vpp: u32) -> bool
+pub fn is_level(rp: u8, oe: u8, wp: u8, vpp: u32) -> bool
     ensures { λ r. ⌜ r ≡ levelIn rp oe wp vpp ⌝ }
 {
     if oe != 0 {
@@ -77,9 +78,9 @@ fn is_level(rp: u8, oe: u8, wp: u8, vpp: u32) -> bool
     vpp <= 1500
 }
 
-// Refusals 1, 2, 4 and 5 do not apply, RP# is up and OE# low.
-pub fn is_ordinary(n: DeviceNumbers, b: BusNumbers, len: usize) -> bool
-    ensures { λ r. ⌜ r ≡ ordinaryIn n b len ⌝ }
+// The times of a program, an erase and a suspend are times that there are.
+pub fn is_timed(n: DeviceNumbers) -> bool
+    ensures { λ r. ⌜ r ≡ timedIn n ⌝ }
 {
     if n.program == 0 {
         return false;
@@ -90,13 +91,30 @@ pub fn is_ordinary(n: DeviceNumbers, b: BusNumbers, len: usize) -> bool
     if n.suspend == 0 {
         return false;
     }
-    if 100 < n.suspend {
+    n.suspend <= 100
+}
+
+// Refusals 1, 2, 4 and 5 do not apply, RP# is up and OE# low.
+pub fn is_ordinary(n: DeviceNumbers, b: BusNumbers, len: usize) -> bool
+    ensures { λ r. ⌜ r ≡ ordinaryIn n b len ⌝ }
+{
+    if !is_timed(n) {
         return false;
     }
     if is_level(b.rp, b.oe, b.wp, b.vpp) {
         return (b.address as usize) < units_of(n.number, n.word, len);
     }
     false
+}
+
+// The first four numbers of a state as one, which is one load.
+pub fn key_of(n: StateNumbers) -> u32
+    ensures { λ r. ⌜ (r ≡ keyOf n) × (n .mode < 256) × (n .status < 256) × (n .phase < 256) ⌝ }
+{
+    (n.mode as u32)
+        + 256 * (n.status as u32)
+        + 65536 * (n.phase as u32)
+        + 16777216 * (n.suspend as u32)
 }
 
 // A proper state with nothing awaited, running or suspended.
@@ -106,26 +124,28 @@ pub fn is_resting(n: StateNumbers) -> bool
     if (n.left as u64) + 65536 * (n.data as u64) + 4294967296 * (n.address as u64) != 0 {
         return false;
     }
-    if n.phase != 0 {
-        return false;
-    }
-    if n.suspend != 0 {
-        return false;
-    }
+    let key = key_of(n);
     if 2 < n.mode {
         return false;
     }
-    (n.status % 8 == 0) & (n.status / 64 == 2)
+    (key / 256 % 8 == 0) & (key / 16384 == 2)
 }
 
-// No data, and the state at rest or with a second write awaited.
-pub fn quiet(n: StateNumbers, mode: u8, status: u8, phase: u8) -> AnswerNumbers
-    ensures { λ r. ⌜ r ≡ quietAs n mode status phase ⌝ }
+// What is seen, and the state at rest or with a second write awaited.
+pub fn rested(
+    n: StateNumbers,
+    seen: u8,
+    value: u16,
+    mode: u8,
+    status: u8,
+    phase: u8,
+) -> AnswerNumbers
+    ensures { λ r. ⌜ r ≡ restedAs n seen value mode status phase ⌝ }
 {
     let w = n.wear;
     AnswerNumbers {
-        seen: 0,
-        value: 0,
+        seen: seen,
+        value: value,
         state: StateNumbers {
             mode: mode,
             status: status,
@@ -136,17 +156,6 @@ pub fn quiet(n: StateNumbers, mode: u8, status: u8, phase: u8) -> AnswerNumbers
             address: 0,
             wear: w,
         },
-    }
-}
-
-// A value, and the state as it was.
-pub fn shown(n: StateNumbers, v: u16) -> AnswerNumbers
-    ensures { λ r. ⌜ r ≡ shownAs n v ⌝ }
-{
-    AnswerNumbers {
-        seen: 1,
-        value: v,
-        state: n,
     }
 }
 

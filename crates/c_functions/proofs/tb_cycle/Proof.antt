@@ -19,8 +19,8 @@ cast-get-unit c = search needs
 get-unit-requires : tie.Need-get-unit-requires
 get-unit-requires c κs = search needs
 
-shown-requires : tie.Need-shown-requires
-shown-requires c κs = search needs
+rested-requires : tie.Need-rested-requires
+rested-requires c κs = search needs
 
 same-length : tie.Need-same-length
 same-length c = search needs
@@ -34,13 +34,13 @@ returns c =
     let k = c .before .before .before .before .before .before .before .if3 .taken in
     let o = ordinary-is (a .device) (a .bus) _ (sym (c .before .before .before .before .before .before .before .before .before .before .is-ordinary .ensures) ∙ c .before .before .before .before .before .before .before .before .before .if2 .taken) (omega (arith, k)) in
     let m = c .before .before .before .before .before .if4 .taken in
-    (c .shown .ensures ∙ array-answer (a .device) (a .state) (a .bus) xs rs o r k m _ (c .before .get-unit .ensures .0), unwritten (a .device) (a .state) (a .bus) xs rs o r _ _ (reads-array (a .device) (a .state) (a .bus) xs rs o r k m) (λ i. c .before .before .before .before .before .before .before .before .before .before .before .before .before .before .slice-known .given i .fits))
+    (c .rested .ensures ∙ array-answer (a .device) (a .state) (a .bus) xs rs o r k m _ (c .before .get-unit .ensures .0), unwritten (a .device) (a .state) (a .bus) xs rs o r _ _ (reads-array (a .device) (a .state) (a .bus) xs rs o r k m) (λ i. c .before .before .before .before .before .before .before .before .before .before .before .before .before .before .slice-known .given i .fits))
 
 wide-requires : tie.Need-wide-requires
 wide-requires c κs = search needs
 
-shown-requires-2 : tie.Need-shown-requires-2
-shown-requires-2 c κs = search needs
+rested-requires-2 : tie.Need-rested-requires-2
+rested-requires-2 c κs = search needs
 
 returns-2 : tie.Need-returns-2
 returns-2 c =
@@ -51,13 +51,13 @@ returns-2 c =
     let k = c .before .before .before .before .before .before .if3 .taken in
     let o = ordinary-is (a .device) (a .bus) _ (sym (c .before .before .before .before .before .before .before .before .before .is-ordinary .ensures) ∙ c .before .before .before .before .before .before .before .before .if2 .taken) (omega (arith, k)) in
     let m = c .before .before .if5 .taken in
-    (c .shown2 .ensures ∙ status-answer (a .device) (a .state) (a .bus) xs rs o r k m _ (c .before .wide .ensures .0), unwritten (a .device) (a .state) (a .bus) xs rs o r _ _ (reads-status (a .device) (a .state) (a .bus) xs rs o r k m) (λ i. c .before .before .before .before .before .before .before .before .before .before .before .before .before .slice-known .given i .fits))
+    (c .rested2 .ensures ∙ status-answer (a .device) (a .state) (a .bus) xs rs o r k m _ (c .before .wide .ensures .0), unwritten (a .device) (a .state) (a .bus) xs rs o r _ _ (reads-status (a .device) (a .state) (a .bus) xs rs o r k m) (λ i. c .before .before .before .before .before .before .before .before .before .before .before .before .before .slice-known .given i .fits))
 
 command-of-requires : tie.Need-command-of-requires
 command-of-requires c κs = search needs
 
-quiet-requires : tie.Need-quiet-requires
-quiet-requires c κs = search needs
+rested-requires-3 : tie.Need-rested-requires-3
+rested-requires-3 c κs = search needs
 
 returns-3 : tie.Need-returns-3
 returns-3 c =
@@ -69,7 +69,7 @@ returns-3 c =
     let k = known-kind (a .bus .kind) _ (a .state .mode) (a .state .status) (q .result) (q .ensures) (c .before .if6 .taken) in
     let o = ordinary-is (a .device) (a .bus) _ (sym (c .before .before .before .before .before .before .before .is-ordinary .ensures) ∙ c .before .before .before .before .before .before .if2 .taken) k in
     let t = command-told (a .device) (a .state) (a .bus) xs rs o r (q .result) (q .ensures) (c .before .if6 .taken) in
-    (c .quiet .ensures ∙ t .0, t .1 (λ i. c .before .before .before .before .before .before .before .before .before .before .before .slice-known .given i .fits))
+    (c .rested3 .ensures ∙ t .0, t .1 (λ i. c .before .before .before .before .before .before .before .before .before .before .before .slice-known .given i .fits))
 
 other-cycle-requires : tie.Need-other-cycle-requires
 other-cycle-requires c κs = search needs
@@ -97,14 +97,14 @@ tb-cycle-spec =
     is-ordinary-requires
     cast-get-unit
     get-unit-requires
-    shown-requires
+    rested-requires
     same-length
     returns
     wide-requires
-    shown-requires-2
+    rested-requires-2
     returns-2
     command-of-requires
-    quiet-requires
+    rested-requires-3
     returns-3
     other-cycle-requires
     same-length-2

@@ -1,41 +1,25 @@
 -- `c_operations::end_cycle` meets its contract.
-use mathlib.Core.Path.{_≡_, subst, _∙_}
-use mathlib.Core.List.{List}
-use Prim.Native.Nat.{ℕ}
-use Rattle.units.specs.Units.{units, spare}
+use mathlib.Core.Path.{_≡_, sym, ap, _∙_}
+use mathlib.Core.Path.{subst}
+use Rattle.units.specs.Units.{units}
 use Rattle.device.specs.declared.Part.{Part}
-use Rattle.model_types.specs.declared.Phase.{Phase}
-use Rattle.model_types.specs.declared.Effect.{Effect}
-use Rattle.model_operation.specs.Settling.{finishOf}
-use Rattle.model.specs.Inner.{doneOf}
-use Rattle.c_cycle.specs.Values.{partIn}
-use Rattle.c_operations.specs.Operations.{phaseOf}
+use Rattle.device.specs.declared.Span.{Span}
+use Rattle.device.specs.Parts.{blockOf}
+use Rattle.device.specs.Inner.{spanOf}
+use Rattle.c_cycle.specs.Values.{deviceIn}
+use Rattle.c_operations.proofs.Ending.{programmed, erased-whole}
+use denote.Ref.{now}
+use native.Mathlib.Omega.{arith}
+use Prim.Native.Nat.{ℕ, _+_, _*_, _/_, _%_, _≤_, _<_}
 use borrow.Author.Needs.{needs}
 use Rattle.c_operations.proofs.end_cycle.Statement.{statement}
 use Rattle.c_operations.proofs.end_cycle.Tie as tie
 
--- the promise of `put`, for the part and the effect that the numbers name
-at-part : (x y : Part) → x ≡ y → (e : Effect) (ph : Phase) (address : ℕ) → e ≡ finishOf ph x address → (zs ys ts : List ℕ)
-    → units (x .word) zs ≡ doneOf e x (units (x .word) ts) (units (x .word) ys)
-    → units (y .word) zs ≡ doneOf (finishOf ph y address) y (units (y .word) ts) (units (y .word) ys)
-at-part x y p e ph address f zs ys ts q =
-    subst (λ (z : Part). units (z .word) zs ≡ doneOf (finishOf ph z address) z (units (z .word) ts) (units (z .word) ys)) p
-    (subst (λ (g : Effect). units (x .word) zs ≡ doneOf g x (units (x .word) ts) (units (x .word) ys)) f q)
+cast-program-unit : tie.Need-cast-program-unit
+cast-program-unit c = search needs
 
-at-spare : (x y : Part) → x ≡ y → (zs ys : List ℕ) → spare (x .word) zs ≡ spare (x .word) ys → spare (y .word) zs ≡ spare (y .word) ys
-at-spare x y p zs ys q = subst (λ (z : Part). spare (z .word) zs ≡ spare (z .word) ys) p q
-
-part-in-requires : tie.Need-part-in-requires
-part-in-requires c κs = search needs
-
-phase-in-requires : tie.Need-phase-in-requires
-phase-in-requires c κs = search needs
-
-end-of-requires : tie.Need-end-of-requires
-end-of-requires c κs = search needs
-
-put-requires : tie.Need-put-requires
-put-requires c κs = search needs
+program-unit-requires : tie.Need-program-unit-requires
+program-unit-requires c κs = search needs
 
 ended-requires : tie.Need-ended-requires
 ended-requires c κs = search needs
@@ -44,21 +28,53 @@ same-length : tie.Need-same-length
 same-length c = search needs
 
 returns : tie.Need-returns
-returns c =
-    let a = c .before .before .before .before .before .before .before .before .before .before .args in
-    let p = c .before .before .before .before .before .before .before .part-in .ensures in
-    let e = c .before .before .before .before .before .end-of .ensures ∙ (λ i. finishOf (c .before .before .before .before .before .before .phase-in .ensures i) (c .before .before .before .before .before .before .before .part-in .result) (a .n .address)) in
-    let q = c .before .before .before .put .ensures in
-    (c .ended .ensures, (at-part (c .before .before .before .before .before .before .before .part-in .result) (partIn (a .d .number) (a .d .word)) p (c .before .before .before .before .before .end-of .result) (phaseOf (a .n)) (a .n .address) e _ _ _ (q .0), at-spare (c .before .before .before .before .before .before .before .part-in .result) (partIn (a .d .number) (a .d .word)) p _ _ (q .1)))
+returns c = let a = c .before .before .before .before .before .before .before .before .before .before .args in
+    let p = c .before .before .before .before .before .before .before .before .before .before .pre in
+    let us = units (deviceIn (a .d) .part .word) (now (a .array)) in
+    let q = c .before .before .before .program-unit in
+    (c .ended .ensures, ((λ rs. programmed (deviceIn (a .d) .part) (a .n) us rs (c .before .before .before .before .before .before .before .if1 .taken) (omega (arith, p .0 .inside, p .1)) _ (q .ensures .0)), q .ensures .1))
+
+part-in-requires : tie.Need-part-in-requires
+part-in-requires c κs = search needs
+
+block-of-requires : tie.Need-block-of-requires
+block-of-requires c κs = search needs
+
+block-span-requires : tie.Need-block-span-requires
+block-span-requires c κs = search needs
+
+erase-units-requires : tie.Need-erase-units-requires
+erase-units-requires c κs = search needs
+
+ended-requires-2 : tie.Need-ended-requires-2
+ended-requires-2 c κs = search needs
+
+same-length-2 : tie.Need-same-length-2
+same-length-2 c = search needs
+
+returns-2 : tie.Need-returns-2
+returns-2 c = let a = c .before .before .before .before .before .before .before .before .before .before .before .before .args in
+    let p = c .before .before .before .before .before .before .before .before .before .before .before .before .pre in
+    let us = units (deviceIn (a .d) .part .word) (now (a .array)) in
+    let q = c .before .before .before .erase-units in
+    let x = c .before .before .before .before .before .before .before .before .part-in .result in
+    let s = c .before .before .before .before .before .before .block-span .ensures ∙ ap (λ (k : ℕ). spanOf x k) (c .before .before .before .before .before .before .before .block-of .ensures) in
+    let t = subst (λ (z : Part). c .before .before .before .before .before .before .block-span .result ≡ spanOf z (blockOf z (a .n .address))) (c .before .before .before .before .before .before .before .before .part-in .ensures) s in
+    (c .ended2 .ensures, ((λ rs. erased-whole (deviceIn (a .d) .part) (a .n) us rs (p .0 .erases (c .before .before .before .before .before .before .before .before .before .if1 .left)) (p .1) (c .before .before .before .before .before .before .block-span .result) t _ (q .ensures .0)), q .ensures .1))
 
 pub end-cycle-spec : {M : Type 1} → statement M
 end-cycle-spec =
     tie.close
     (tie.spec
-    part-in-requires
-    phase-in-requires
-    end-of-requires
-    put-requires
+    cast-program-unit
+    program-unit-requires
     ended-requires
     same-length
-    returns)
+    returns
+    part-in-requires
+    block-of-requires
+    block-span-requires
+    erase-units-requires
+    ended-requires-2
+    same-length-2
+    returns-2)

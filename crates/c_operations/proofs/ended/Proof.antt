@@ -1,5 +1,7 @@
 -- `c_operations::ended` meets its contract.
+use mathlib.Core.Path.{_≡_, sym, ap, _∙_}
 use lib.Bits.{bitOr}
+use Rattle.c_ordinary.specs.Ordinary.{restedAs}
 use borrow.Author.Needs.{needs}
 use Rattle.c_operations.proofs.ended.Statement.{statement}
 use Rattle.c_operations.proofs.ended.Tie as tie
@@ -10,13 +12,11 @@ seen-in-requires c κs = search needs
 shown-in-requires : tie.Need-shown-in-requires
 shown-in-requires c κs = search needs
 
+rested-requires : tie.Need-rested-requires
+rested-requires c κs = search needs
+
 returns : tie.Need-returns
-returns c = λ i.
-    record {
-      seen = c .before .seen-in .ensures i;
-      value = c .shown-in .ensures i;
-      state = record { mode = 1; status = bitOr (c .before .before .before .before .args .n .status) 0x80; phase = 0; suspend = 0; left = 0; «data» = 0; address = 0; wear = c .before .before .before .before .args .n .wear };
-    }
+returns c = c .rested .ensures ∙ (λ i. restedAs (c .before .before .before .before .args .n) (c .before .before .seen-in .ensures i) (c .before .shown-in .ensures i) 1 (bitOr (c .before .before .before .before .args .n .status) 0x80) 0)
 
 pub ended-spec : {M : Type 1} → statement M
 ended-spec =
@@ -24,4 +24,5 @@ ended-spec =
     (tie.spec
     seen-in-requires
     shown-in-requires
+    rested-requires
     returns)

@@ -1,60 +1,45 @@
 -- `c_operations::suspend_write` meets its contract.
+use mathlib.Core.Path.{_≡_, sym, ap, _∙_}
 use native.Mathlib.Omega.{arith}
-use Rattle.c_operations.proofs.Moving.{none, moves-by}
 use Rattle.c_operations.proofs.Running.{suspends}
 use borrow.Author.Needs.{needs}
 use Rattle.c_operations.proofs.suspend_write.Statement.{statement}
 use Rattle.c_operations.proofs.suspend_write.Tie as tie
 
-unmoved-requires : tie.Need-unmoved-requires
-unmoved-requires c κs = search needs
-
-returns : tie.Need-returns
-returns c = λ k z. none _ (c .unmoved .ensures) k
-
-unmoved-requires-2 : tie.Need-unmoved-requires-2
-unmoved-requires-2 c κs = search needs
-
-returns-2 : tie.Need-returns-2
-returns-2 c = λ k z. none _ (c .unmoved2 .ensures) k
-
-unmoved-requires-3 : tie.Need-unmoved-requires-3
-unmoved-requires-3 c κs = search needs
-
-returns-3 : tie.Need-returns-3
-returns-3 c = λ k z. none _ (c .unmoved3 .ensures) k
-
 is-running-requires : tie.Need-is-running-requires
 is-running-requires c κs = search needs
 
-sub-write-leaves : tie.Need-sub-write-leaves
-sub-write-leaves c = let h = (c .before .before .is-running .ensures (c .before .if4 .taken)) .more in search needs
+sub-written : tie.Need-sub-written
+sub-written c = let h = (c .before .before .is-running .ensures (c .before .if3 .taken) (c .before .before .before .before .before .before .before .before .before .pre .1)) .more in search needs
 
-write-leaves-requires : tie.Need-write-leaves-requires
-write-leaves-requires c κs = search needs
+written-requires : tie.Need-written-requires
+written-requires c κs = search needs
 
-returns-4 : tie.Need-returns-4
-returns-4 c = λ k z. moves-by (c .before .before .before .before .before .before .before .before .before .before .args .d) (c .before .before .before .before .before .before .before .before .before .before .args .n) (c .before .before .before .before .before .before .before .before .before .before .args .b) _ _ (c .write-leaves .ensures) (λ xs rs s. suspends (c .before .before .before .before .before .before .before .before .before .before .args .d) (c .before .before .before .before .before .before .before .before .before .before .args .n) (c .before .before .before .before .before .before .before .before .before .before .args .b) xs rs (s .ordinary) (c .before .before .before .is-running .ensures (c .before .before .if4 .taken)) (s .supplied) (let q = c .before .before .before .before .if3 .left in let p = (c .before .before .before .is-running .ensures (c .before .before .if4 .taken)) .more in omega (arith, p, q)) z (c .before .before .before .before .before .before .before .before .if1 .left) (c .before .before .before .before .before .before .if2 .left))
+returns : tie.Need-returns
+returns c = let a = c .before .before .before .before .before .before .before .before .before .before .args in
+    let p = c .before .before .before .before .before .before .before .before .before .before .pre in
+    let xs = a .array .now in
+    let rs = a .residue .now in
+    let t = (let run = c .before .before .before .is-running .ensures (c .before .before .if3 .taken) (p .1) in let last = c .before .before .before .before .if2 .taken in let m = run .more in suspends (a .d) (a .n) (a .b) xs rs (p .0 .ordinary) run (p .0 .supplied) (omega (arith, m, last)) (p .2) (p .3) (c .before .before .before .before .before .before .if1 .taken)) in
+    (c .written .ensures ∙ t .0, t .1 (λ i. c .before .before .before .before .before .before .before .before .before .slice-known .given i .fits))
 
-unmoved-requires-4 : tie.Need-unmoved-requires-4
-unmoved-requires-4 c κs = search needs
+typed-requires : tie.Need-typed-requires
+typed-requires c κs = search needs
 
-returns-5 : tie.Need-returns-5
-returns-5 c = λ k z. none _ (c .unmoved4 .ensures) k
+same-length : tie.Need-same-length
+same-length c = search needs
+
+returns-2 : tie.Need-returns-2
+returns-2 c = search needs
 
 pub suspend-write-spec : {M : Type 1} → statement M
 suspend-write-spec =
     tie.close
     (tie.spec
-    unmoved-requires
-    returns
-    unmoved-requires-2
-    returns-2
-    unmoved-requires-3
-    returns-3
     is-running-requires
-    sub-write-leaves
-    write-leaves-requires
-    returns-4
-    unmoved-requires-4
-    returns-5)
+    sub-written
+    written-requires
+    returns
+    typed-requires
+    same-length
+    returns-2)

@@ -1,5 +1,8 @@
 -- `c_ordinary::is_resting` meets its contract.
-use Prim.Native.Nat.{_+_, _*_}
+use mathlib.Core.Path.{_≡_, sym, ap, _∙_}
+use mathlib.Core.Bool.{_&&_}
+use Prim.Native.Nat.{ℕ, _+_, _*_, _/_, _%_}
+use lib.Dec.{eqb}
 use borrow.Author.Tests.{eq-eqb, ne-eqb, lt-ltb, le-ltb}
 use Rattle.c_ordinary.specs.Ordinary.{restingIn}
 use borrow.Author.Needs.{needs}
@@ -31,21 +34,16 @@ returns : tie.Need-returns
 unfolding restingIn
 returns c = simp (ne-eqb (c .before .before .before .before .args .n .left + 65536 * c .before .before .before .before .args .n .data + 4294967296 * c .before .before .before .before .args .n .address) 0 (c .if1 .taken))
 
+key-of-requires : tie.Need-key-of-requires
+key-of-requires c κs = search needs
+
 returns-2 : tie.Need-returns-2
 unfolding restingIn
-returns-2 c = simp (eq-eqb (c .before .before .before .before .before .before .args .n .left + 65536 * c .before .before .before .before .before .before .args .n .data + 4294967296 * c .before .before .before .before .before .before .args .n .address) 0 (c .before .before .if1 .left), ne-eqb (c .before .before .before .before .before .before .args .n .phase) 0 (c .if2 .taken))
+returns-2 c = simp (eq-eqb (c .before .before .before .before .before .before .before .args .n .left + 65536 * c .before .before .before .before .before .before .before .args .n .data + 4294967296 * c .before .before .before .before .before .before .before .args .n .address) 0 (c .before .before .before .if1 .left), lt-ltb 2 (c .before .before .before .before .before .before .before .args .n .mode) (c .if2 .taken))
 
 returns-3 : tie.Need-returns-3
 unfolding restingIn
-returns-3 c = simp (eq-eqb (c .before .before .before .before .before .before .before .before .args .n .left + 65536 * c .before .before .before .before .before .before .before .before .args .n .data + 4294967296 * c .before .before .before .before .before .before .before .before .args .n .address) 0 (c .before .before .before .before .if1 .left), eq-eqb (c .before .before .before .before .before .before .before .before .args .n .phase) 0 (c .before .before .if2 .left), ne-eqb (c .before .before .before .before .before .before .before .before .args .n .suspend) 0 (c .if3 .taken))
-
-returns-4 : tie.Need-returns-4
-unfolding restingIn
-returns-4 c = simp (eq-eqb (c .before .before .before .before .before .before .before .before .before .before .args .n .left + 65536 * c .before .before .before .before .before .before .before .before .before .before .args .n .data + 4294967296 * c .before .before .before .before .before .before .before .before .before .before .args .n .address) 0 (c .before .before .before .before .before .before .if1 .left), eq-eqb (c .before .before .before .before .before .before .before .before .before .before .args .n .phase) 0 (c .before .before .before .before .if2 .left), eq-eqb (c .before .before .before .before .before .before .before .before .before .before .args .n .suspend) 0 (c .before .before .if3 .left), lt-ltb 2 (c .before .before .before .before .before .before .before .before .before .before .args .n .mode) (c .if4 .taken))
-
-returns-5 : tie.Need-returns-5
-unfolding restingIn
-returns-5 c = simp (eq-eqb (c .before .before .before .before .before .before .before .before .before .before .before .before .args .n .left + 65536 * c .before .before .before .before .before .before .before .before .before .before .before .before .args .n .data + 4294967296 * c .before .before .before .before .before .before .before .before .before .before .before .before .args .n .address) 0 (c .before .before .before .before .before .before .before .before .if1 .left), eq-eqb (c .before .before .before .before .before .before .before .before .before .before .before .before .args .n .phase) 0 (c .before .before .before .before .before .before .if2 .left), eq-eqb (c .before .before .before .before .before .before .before .before .before .before .before .before .args .n .suspend) 0 (c .before .before .before .before .if3 .left), le-ltb 2 (c .before .before .before .before .before .before .before .before .before .before .before .before .args .n .mode) (c .before .before .if4 .left))
+returns-3 c = ap (λ (x : ℕ). eqb (x / 256 % 8) 0 && eqb (x / 16384) 2) (c .before .before .key-of .ensures .0) ∙ simp (eq-eqb (c .before .before .before .before .before .before .before .args .n .left + 65536 * c .before .before .before .before .before .before .before .args .n .data + 4294967296 * c .before .before .before .before .before .before .before .args .n .address) 0 (c .before .before .before .if1 .left), le-ltb 2 (c .before .before .before .before .before .before .before .args .n .mode) (c .if2 .left))
 
 pub is-resting-spec : {M : Type 1} → statement M
 is-resting-spec =
@@ -59,7 +57,6 @@ is-resting-spec =
     mul-if1-2
     add-if1-2
     returns
+    key-of-requires
     returns-2
-    returns-3
-    returns-4
-    returns-5)
+    returns-3)
