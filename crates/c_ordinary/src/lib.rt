@@ -6,8 +6,8 @@ use c_cycle::DeviceNumbers;
 use c_cycle::StateNumbers;
 ghost use mathlib.Core.Path.{_≡_};
 ghost use Prim.Native.Nat.{_<_};
-ghost use Rattle.c_ordinary.specs.Ordinary.{bytesFor, unitsFor, levelIn, timedIn, ordinaryIn, keyOf, restingIn, restedAs, setsAs, unsetAs};
-ghost use Rattle.c_ordinary.specs.Ordinary.{commandedOf};
+ghost use Rattle.c_ordinary.specs.Ordinary.{bytesFor, unitsFor, levelIn, timedIn, ordinaryIn, keyOf, restingIn, restedAs};
+ghost use Rattle.c_ordinary.specs.Ordinary.{setsAs, unsetAs, commandedOf};
 
 // What a command sets, and whether it is one of those that are known here.
 pub struct Commanded {
