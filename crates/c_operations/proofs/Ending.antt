@@ -46,6 +46,7 @@ use Rattle.c_cycle.specs.declared.BusNumbers.{BusNumbers}
 use Rattle.c_ordinary.proofs.Passing.{passes}
 use Rattle.c_operations.specs.Operations.{Running, Supplied, Ending, phaseOf, endIn, endedAs, seenIn, shownIn}
 use Rattle.c_operations.proofs.Running.{going, is-going, is-proper}
+use Rattle.c_operations.proofs.Doing.{Does, by-kind}
 
 -- the units after an end are those that the effect leaves
 module _ (part : Part) (n : StateNumbers) (us : List ℕ) (rs : List ℕ) where
@@ -105,52 +106,12 @@ module _ (d : DeviceNumbers) (n : StateNumbers) (b : BusNumbers) (xs rs : List �
   settled = simp (o .ordinary .up, o .supplied, r .busy, r .unheld, eq-eqb (n .left - 1) 0 (omega (arith, g .last)))
 
   pass : 0 ≡ judgeOf D (stateIn n) C (lentIn word (length xs)) (unitsIn word (length rs))
-  pass = passes d n b xs rs (o .ordinary) S (is-going d n r) (is-proper d n r) enough
+  pass = passes d n b xs rs (o .ordinary .fair) S (is-going d n r) (is-proper d n r) (enough (unitsIn word (length rs)))
 
   up-kind : (k : Kind) → C .kind ≡ k → decideJudged D S C ≡ decideKind k D S C (settledAs T E)
   unfolding decideJudged
   up-kind k e = if-false (rpLow (C .pins)) _ _ (o .ordinary .up) ∙ (λ i. decideKind (e i) D S C (settled i))
 
-  -- by the reply
-  module _ (reply : Reply) (e : decideJudged D S C ≡ decidedAs reply T E) where
-    same : decidedAs reply T E ≡ decideJudged D (stateIn n) C
-    same = sym (ap (λ (x : State). decideJudged D x C) (is-going d n r) ∙ e)
-
-    judged : record { seen = seenOf reply (arrayJudged D (stateIn n) C (units word xs) (units word rs)); state = T } ≡ answerJudged D (stateIn n) C (units word xs) (units word rs)
-    unfolding answerJudged
-    judged = λ i. record { seen = seenOf (same i .reply) (arrayJudged D (stateIn n) C (units word xs) (units word rs)); state = same i .state }
-
-    answered : answerOut n (record { seen = seenOf reply (arrayJudged D (stateIn n) C (units word xs) (units word rs)); state = T }) ≡ cycled d n b xs rs
-    unfolding cycled
-    answered = ap (λ (a : Answer). answerOut n a) (passed-answer D (stateIn n) C xs rs 0 pass refl _ judged)
-
-    written : (ys : List ℕ) → Bytes xs → Bytes ys → units word ys ≡ doneOf E (D .part) (units word rs) (units word xs) → spare word ys ≡ spare word xs → length ys ≡ length xs → ys ≡ arrayCycled d n b xs rs
-    unfolding arrayJudged arrayCycled
-    written ys p q u s l = passed-bytes D (stateIn n) C xs rs 0 pass refl ys p q (u ∙ (λ i. doneOf (same i .effect) (D .part) (units word rs) (units word xs))) s l
-
-  goes-back : stateBack n T ≡ stateOut T
-  unfolding stateBack
-  goes-back = if-false (noState n) n (stateOut T) (r .there)
-
-  reads : b .kind ≡ 0 → decideJudged D S C ≡ decidedAs (Gives (T .status)) T E
-  unfolding kindIn
-  reads e = up-kind Read (ap kindIn e)
-
-  idles : b .kind ≡ 2 → decideJudged D S C ≡ decidedAs Quiet T E
-  unfolding kindIn
-  idles e = up-kind Idle (ap kindIn e)
-
   -- for code: what is answered, and what is left
-  pub ends : (endedAs n (b .kind) ≡ cycled d n b xs rs)
-      × ((ys : List ℕ) → Bytes xs → Bytes ys → units word ys ≡ doneOf E (D .part) (units word rs) (units word xs) → spare word ys ≡ spare word xs → length ys ≡ length xs → ys ≡ arrayCycled d n b xs rs)
-  unfolding seenIn shownIn
-  ends = go (eqb (b .kind) 0) refl
-    where
-      go : (t : Bool) → eqb (b .kind) 0 ≡ t → (record { seen = if t then 1 else 0; value = if t then T .status else 0; state = stateOut T } ≡ cycled d n b xs rs)
-          × ((ys : List ℕ) → Bytes xs → Bytes ys → units word ys ≡ doneOf E (D .part) (units word rs) (units word xs) → spare word ys ≡ spare word xs → length ys ≡ length xs → ys ≡ arrayCycled d n b xs rs)
-      go true e =
-          let f = reads (eqb-true (b .kind) 0 e) in
-          ((λ i. record { seen = 1; value = T .status; state = sym goes-back i }) ∙ answered (Gives (T .status)) f, written (Gives (T .status)) f)
-      go false e =
-          let f = idles (omega (arith, o .ordinary .kind, eqb-false (b .kind) 0 e, eqb-false (b .kind) 1 (g .unwritten))) in
-          ((λ i. record { seen = 0; value = 0; state = sym goes-back i }) ∙ answered Quiet f, written Quiet f)
+  pub ends : Does d n b xs rs E (endedAs n (b .kind))
+  ends = by-kind d n b xs rs S T E (r .there) (is-going d n r) pass up-kind refl (o .ordinary .fair .kind) (g .unwritten)

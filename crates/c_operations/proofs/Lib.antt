@@ -2,7 +2,9 @@ pub mod Moving
 pub mod Keys
 pub mod Running
 pub mod Holding
+pub mod Doing
 pub mod Ending
 pub mod Starting
 pub mod Supplying
+pub mod Cutting
 pub mod Unique

@@ -75,7 +75,7 @@ module _ (d : DeviceNumbers) (n : StateNumbers) (b : BusNumbers) (xs rs : List �
     where
       go : (t : Bool) → eqb (b .kind) 0 ≡ t → Told d n b xs rs (record { seen = if t then 1 else 0; value = if t then T .status else 0; state = stateOut T })
       go true e = told-by (Gives (T .status)) T 1 (T .status) (reads (eqb-true (b .kind) 0 e) m) refl
-      go false e = told-by Quiet T 0 0 (idles (omega (arith, o .kind, eqb-false (b .kind) 0 e, eqb-false (b .kind) 1 z))) refl
+      go false e = told-by Quiet T 0 0 (idles (omega (arith, o .fair .kind, eqb-false (b .kind) 0 e, eqb-false (b .kind) 1 z))) refl
 
   -- a write does what its action does
   pub writes : b .kind ≡ 1 → (a : Action) → actionOf (D .part) (T .phase) (b .data % 256) ≡ a → isRefuse a ≡ false

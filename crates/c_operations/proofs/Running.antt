@@ -35,7 +35,7 @@ use Rattle.c_operations.specs.Operations.{Running, phaseOf, polledAs, wr
 use Rattle.c_operations.proofs.Moving.{Told, polls, writes}
 
 -- what is busy is an operation under way, not suspended, and awaits nothing
-pending : (ph : Phase) → isBusy ph ≡ true → (isPending ph ≡ true) × (isSuspended ph ≡ false) × (isAwaited ph ≡ false)
+pub pending : (ph : Phase) → isBusy ph ≡ true → (isPending ph ≡ true) × (isSuspended ph ≡ false) × (isAwaited ph ≡ false)
 pending Free e = absurd (unlike (sym e))
 pending EraseAwaited e = absurd (unlike (sym e))
 pending DataAwaited e = absurd (unlike (sym e))

@@ -4,7 +4,7 @@ use mathlib.Core.Path.{_≡_}
 use mathlib.Core.Bool.{true, false}
 use Prim.Native.Nat.{ℕ, _/_, _%_, _≤_, _<_}
 use lib.Dec.{eqb}
-use lib.Bits.{bitOr}
+use lib.Bits.{bitAnd, bitOr}
 use Rattle.common.specs.Choice.{if_then_else_}
 use Rattle.device.specs.declared.Part.{Part}
 use Rattle.device.specs.Parts.{sizeOf}
@@ -14,7 +14,7 @@ use Rattle.model_levels.specs.Levels.{vppLow, locked}
 use Rattle.model_types.specs.Counts.{worn}
 use Rattle.model_types.specs.Phases.{isBusy, isSuspending}
 use Rattle.model_states.specs.States.{mostLeft}
-use Rattle.model_operation.specs.Settling.{finishOf}
+use Rattle.model_operation.specs.Settling.{cutOf, finishOf, residueFor}
 use Rattle.c_cycle.specs.Values.{deviceIn, phaseIn, noState, wearIn, wearOut, cycleIn}
 use Rattle.c_cycle.specs.declared.DeviceNumbers.{DeviceNumbers}
 use Rattle.c_cycle.specs.declared.StateNumbers.{StateNumbers}
@@ -152,3 +152,30 @@ givenAs n v = record { seen = 1; value = v; state = n }
 -- what is seen of an end, and the state at rest: a read gives the status that is left
 abbrev pub endedAs : StateNumbers → ℕ → AnswerNumbers
 endedAs n kind = restedAs n (seenIn kind) (shownIn kind (bitOr (n .status) 0x80)) 1 (bitOr (n .status) 0x80) 0
+
+-- RP# as it is up
+unfoldable pub raisedIn : ℕ → ℕ
+raisedIn rp = if eqb rp 0 then 1 else rp
+
+-- a cycle that cuts what is running: RP# is low, or VPP is and the cycle is no write
+pub record Cutting (d : DeviceNumbers) (b : BusNumbers) : Type 0 where
+  pub low : eqb (b .rp) 0 ≡ false → vppLow (deviceIn d .part) (cycleIn b .pins) ≡ true
+  pub unwritten : eqb (b .rp) 0 ≡ false → eqb (b .kind) 1 ≡ false
+
+-- what the cut does to the array
+abbrev pub cutIn : Part → StateNumbers → Effect
+cutIn part n = cutOf (phaseOf n) part (n .address)
+
+-- the units of residue that it takes
+abbrev pub cutTakes : Part → StateNumbers → ℕ
+cutTakes part n = residueFor (phaseOf n) part (n .address)
+
+-- the status after a cut by VPP
+abbrev pub cutStatus : ℕ → ℕ → ℕ
+cutStatus sr bits = bitOr (bitAnd sr 0xBF) bits
+
+-- what is seen of a cut, and the state at rest: after a reset nothing, after a cut by VPP a read gives the status
+unfoldable pub cutAs : StateNumbers → BusNumbers → ℕ → AnswerNumbers
+cutAs n b bits =
+    if eqb (b .rp) 0 then restedAs n 0 0 0 0x80 0
+    else restedAs n (seenIn (b .kind)) (shownIn (b .kind) (cutStatus (n .status) bits)) 1 (cutStatus (n .status) bits) 0

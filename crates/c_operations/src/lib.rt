@@ -9,13 +9,16 @@ use c_cycle::states::answer_out;
 use c_cycle::states::cycle_in;
 use c_cycle::states::device_in;
 use c_cycle::states::part_in;
+use c_cycle::states::pins_in;
 use c_cycle::states::state_in;
 use c_ordinary::is_level;
+use c_ordinary::is_resting;
 use c_ordinary::is_timed;
 use c_ordinary::key_of;
 use c_ordinary::rested;
 use c_ordinary::units_of;
 use model_levels::locked;
+use model_levels::vpp_low;
 ghost use mathlib.Core.Path.{_≡_};
 ghost use mathlib.Core.Bool.{true, false};
 ghost use mathlib.Core.List.{List};
@@ -31,6 +34,8 @@ ghost use Rattle.c_cycle.specs.Values.{deviceIn, cycleIn};
 ghost use Rattle.c_cycle.specs.Answers.{cycled, arrayCycled};
 ghost use Rattle.c_operations.specs.Operations.{Running, Ending, Suspending, Suspended, Awaiting, Starting, Supplied, endIn};
 ghost use Rattle.c_operations.specs.Operations.{seenIn, shownIn, polledAs, writtenAs, wornIn, givenAs, endedAs};
+ghost use Rattle.c_operations.specs.Operations.{raisedIn, Cutting, cutAs};
+ghost use Rattle.c_ordinary.specs.Ordinary.{Fair};
 
 // An operation is running, in a proper state, where its address is inside the array.
 fn is_running(d: DeviceNumbers, n: StateNumbers) -> bool
@@ -474,6 +479,149 @@ fn supplied_units(d: DeviceNumbers, b: BusNumbers, len: usize) -> usize
     0
 }
 
+// RP# as it is up.
+fn raised(rp: u8) -> u8
+    ensures { λ r. ⌜ r ≡ raisedIn rp ⌝ }
+{
+    if rp == 0 {
+        return 1;
+    }
+    rp
+}
+
+// The units of the array where the levels are good, RP# up or low; none otherwise.
+fn fair_units(d: DeviceNumbers, b: BusNumbers, len: usize) -> usize
+    ensures { λ r. ⌜ (0 < r → (b .kind ≤ 2 → Fair d b len) × (r ≡ sizeOf (deviceIn d .part))) ⌝ }
+{
+    if !is_timed(d) {
+        return 0;
+    }
+    if is_level(raised(b.rp), b.oe, b.wp, b.vpp) {
+        let units = units_of(d.number, d.word, len);
+        if (b.address as usize) < units {
+            return units;
+        }
+    }
+    0
+}
+
+// The cycle cuts an operation: RP# is low, or VPP is and the cycle is no write.
+fn is_cutting(d: DeviceNumbers, b: BusNumbers) -> bool
+    ensures { λ r. ⌜ (r ≡ true → Cutting d b) ⌝ }
+{
+    if b.rp == 0 {
+        return true;
+    }
+    if b.kind == 1 {
+        return false;
+    }
+    let part = part_in(d.number, d.word);
+    vpp_low(part, pins_in(b.rp, b.wp, b.vpp))
+}
+
+// What is seen of a cut, and the state at rest: as after a reset where RP# is low, and else with such bits in the status.
+fn cut(n: StateNumbers, b: BusNumbers, bits: u8) -> AnswerNumbers
+    ensures { λ r. ⌜ r ≡ cutAs n b bits ⌝ }
+{
+    if b.rp == 0 {
+        return rested(n, 0, 0, 0, 0x80, 0);
+    }
+    let status = n.status & 0xBF | bits;
+    rested(n, seen_in(b.kind), shown_in(b.kind, status), 1, status, 0)
+}
+
+// A cut of a program: the residue's first unit says which bits stay.
+fn program_cut(
+    d: DeviceNumbers,
+    n: StateNumbers,
+    b: BusNumbers,
+    array: &mut [u8],
+    residue: &[u8],
+) -> AnswerNumbers
+    requires { ⌜ (Fair d b (length (now array))) × (Running d n) × (Cutting d b) × (n .phase ≡ 3) ⌝ }
+    ensures result { λ r. ⌜ r ≡ cycled d n b (now (array .entry)) (now (residue .entry)) ⌝ }
+    ensures array_left { λ _. ⌜ now (array .exit) ≡ arrayCycled d n b (now (array .entry)) (now (residue .entry)) ⌝ }
+{
+    if 1 <= units::units_in(d.word == 1, residue.len()) {
+        let r = units::get_unit(d.word == 1, residue, 0);
+        units::program_unit(d.word == 1, array, n.address as usize, n.data | r);
+        return cut(n, b, 0x98);
+    }
+    let a = typed(d, n, b, array, residue);
+    a
+}
+
+// A cut of an erase: the block is the residue's first units.
+fn erase_cut(
+    d: DeviceNumbers,
+    n: StateNumbers,
+    b: BusNumbers,
+    array: &mut [u8],
+    residue: &[u8],
+) -> AnswerNumbers
+    requires { ⌜ (Fair d b (length (now array))) × (Running d n) × (Cutting d b) × (n .phase ≡ 4) ⌝ }
+    ensures result { λ r. ⌜ r ≡ cycled d n b (now (array .entry)) (now (residue .entry)) ⌝ }
+    ensures array_left { λ _. ⌜ now (array .exit) ≡ arrayCycled d n b (now (array .entry)) (now (residue .entry)) ⌝ }
+{
+    let part = part_in(d.number, d.word);
+    let span = device::block_span(part, device::block_of(part, n.address));
+    if span.length <= units::units_in(d.word == 1, residue.len()) {
+        units::leave_units(d.word == 1, array, span.first, span.length, residue);
+        return cut(n, b, 0xA8);
+    }
+    let a = typed(d, n, b, array, residue);
+    a
+}
+
+// A cycle with RP# or VPP low: a reset at rest, a cut of what is running.
+fn cut_cycle(
+    d: DeviceNumbers,
+    n: StateNumbers,
+    b: BusNumbers,
+    array: &mut [u8],
+    residue: &[u8],
+) -> AnswerNumbers
+    requires { ⌜ (Fair d b (length (now array))) × (n .address < sizeOf (deviceIn d .part)) × (Cutting d b) ⌝ }
+    ensures result { λ r. ⌜ r ≡ cycled d n b (now (array .entry)) (now (residue .entry)) ⌝ }
+    ensures array_left { λ _. ⌜ now (array .exit) ≡ arrayCycled d n b (now (array .entry)) (now (residue .entry)) ⌝ }
+{
+    if is_running(d, n) {
+        if n.phase == 3 {
+            return program_cut(d, n, b, array, residue);
+        }
+        return erase_cut(d, n, b, array, residue);
+    }
+    if b.rp == 0 {
+        if is_resting(n) {
+            return cut(n, b, 0);
+        }
+    }
+    let a = typed(d, n, b, array, residue);
+    a
+}
+
+// A cycle that is not supplied.
+fn low_cycle(
+    d: DeviceNumbers,
+    n: StateNumbers,
+    b: BusNumbers,
+    array: &mut [u8],
+    residue: &[u8],
+) -> AnswerNumbers
+    ensures result { λ r. ⌜ r ≡ cycled d n b (now (array .entry)) (now (residue .entry)) ⌝ }
+    ensures array_left { λ _. ⌜ now (array .exit) ≡ arrayCycled d n b (now (array .entry)) (now (residue .entry)) ⌝ }
+{
+    if b.kind < 3 {
+        if is_cutting(d, b) {
+            if (n.address as usize) < fair_units(d, b, array.len()) {
+                return cut_cycle(d, n, b, array, residue);
+            }
+        }
+    }
+    let a = typed(d, n, b, array, residue);
+    a
+}
+
 // Every cycle but an ordinary one at rest.
 pub fn other_cycle(
     device: DeviceNumbers,
@@ -492,7 +640,9 @@ pub fn other_cycle(
         if bus.kind < 3 {
             return poll_cycle(device, state, bus, array, residue);
         }
+        let a = low_cycle(device, state, bus, array, residue);
+        return a;
     }
-    let a = typed(device, state, bus, array, residue);
+    let a = low_cycle(device, state, bus, array, residue);
     a
 }

@@ -35,7 +35,7 @@ use Rattle.c_cycle.specs.Answers.{answerOut, cycled, arrayCycled}
 use Rattle.c_cycle.specs.declared.DeviceNumbers.{DeviceNumbers}
 use Rattle.c_cycle.specs.declared.StateNumbers.{StateNumbers}
 use Rattle.c_cycle.specs.declared.BusNumbers.{BusNumbers}
-use Rattle.c_ordinary.specs.Ordinary.{Ordinary}
+use Rattle.c_ordinary.specs.Ordinary.{Fair, Ordinary}
 
 -- OE# low is a level of every kind
 oe-low : (part : Part) (k : Kind) → badOe part k 0 ≡ false
@@ -53,8 +53,8 @@ pub record Stands (d : DeviceNumbers) (n : StateNumbers) (b : BusNumbers) (s t :
   pub enough : (k : ℕ) → shortResidue (deviceIn d .part) s (cycleIn b) k ≡ false
   pub settled : settleOf (deviceIn d .part) s (cycleIn b .pins) ≡ settledAs t Nothing
 
--- an ordinary cycle of a state s that is proper, where no cut is to come that lacks its residue
-module _ (d : DeviceNumbers) (n : StateNumbers) (b : BusNumbers) (xs rs : List ℕ) (o : Ordinary d b (length xs)) (s : State) (typed : stateIn n ≡ s) (good : improper (deviceIn d) s ≡ false) (enough : (k : ℕ) → shortResidue (deviceIn d .part) s (cycleIn b) k ≡ false) where
+-- a fair cycle of a state s that is proper, where no cut is to come that lacks its residue
+module _ (d : DeviceNumbers) (n : StateNumbers) (b : BusNumbers) (xs rs : List ℕ) (o : Fair d b (length xs)) (s : State) (typed : stateIn n ≡ s) (good : improper (deviceIn d) s ≡ false) (enough : shortResidue (deviceIn d .part) s (cycleIn b) (unitsIn (deviceIn d .part .word) (length rs)) ≡ false) where
   abbrev part : Part
   part = deviceIn d .part
 
@@ -73,7 +73,7 @@ module _ (d : DeviceNumbers) (n : StateNumbers) (b : BusNumbers) (xs rs : List �
   -- none of refusals 1 to 6 applies
   pub passes : 0 ≡ judgeOf (deviceIn d) (stateIn n) (cycleIn b) (lentIn (part .word) (length xs)) (unitsIn (part .word) (length rs))
   unfolding judgeOf
-  passes = simp (typed, o .known, o .sized, eq-eqb (sizeOf part) (sizeOf part) refl, good, levels, inside, enough (unitsIn (part .word) (length rs)))
+  passes = simp (typed, o .known, o .sized, eq-eqb (sizeOf part) (sizeOf part) refl, good, levels, inside, enough)
 
 module _ (d : DeviceNumbers) (n : StateNumbers) (b : BusNumbers) (xs rs : List ℕ) (o : Ordinary d b (length xs)) (s t : State) (h : Stands d n b s t) where
   abbrev D : Device
@@ -86,7 +86,7 @@ module _ (d : DeviceNumbers) (n : StateNumbers) (b : BusNumbers) (xs rs : List �
   word = D .part .word
 
   none-applies : 0 ≡ judgeOf D (stateIn n) C (lentIn word (length xs)) (unitsIn word (length rs))
-  none-applies = passes d n b xs rs o s (h .typed) (h .good) (h .enough)
+  none-applies = passes d n b xs rs (o .fair) s (h .typed) (h .good) (h .enough (unitsIn word (length rs)))
 
   -- the answer where step 4 is known to change the state alone
   module _ (reply : Reply) (u : State) (e : decideJudged D s C ≡ decidedAs reply u Nothing) where

@@ -60,7 +60,7 @@ module _ (n : StateNumbers) (r : Resting n) where
   abbrev pub rest : State
   rest = record { mode = modeIn (n .mode); status = n .status; phase = Free; left = 0; address = 0; wear = wearIn (n .wear) }
 
-  there : noState n ≡ false
+  pub there : noState n ≡ false
   unfolding noState strayData straySuspend
   there = simp (le-ltb 2 (n .mode) (r .mode), r .phase, r .unit, r .suspend)
 

@@ -75,15 +75,20 @@ restingIn n =
     else if ltb 2 (n .mode) then false
     else eqb (keyOf n / 256 % 8) 0 && eqb (keyOf n / 16384) 2
 
--- an ordinary cycle on so many bytes: a kind, OE# low, RP# up, a known device, good levels, an array of its size, an address inside
-pub record Ordinary (n : DeviceNumbers) (b : BusNumbers) (len : ℕ) : Type 0 where
+-- a cycle on so many bytes that refusals 1, 2, 4 and 5 do not stop: a kind, OE# low, a known device, good levels, an array of its size, an
+-- address inside
+pub record Fair (n : DeviceNumbers) (b : BusNumbers) (len : ℕ) : Type 0 where
   pub kind : b .kind ≤ 2
   pub oe : b .oe ≡ 0
-  pub up : eqb (b .rp) 0 ≡ false
   pub known : unknownDevice (deviceIn n) ≡ false
   pub pins : badPins (deviceIn n .part) (pinsIn (b .rp) (b .wp) (b .vpp)) ≡ false
   pub sized : lentIn (deviceIn n .part .word) len ≡ sizeOf (deviceIn n .part)
   pub inside : b .address < sizeOf (deviceIn n .part)
+
+-- .. and an ordinary one: RP# is up
+pub record Ordinary (n : DeviceNumbers) (b : BusNumbers) (len : ℕ) : Type 0 where
+  pub fair : Fair n b len
+  pub up : eqb (b .rp) 0 ≡ false
 
 -- the numbers of a proper state with nothing awaited, running or suspended
 pub record Resting (n : StateNumbers) : Type 0 where

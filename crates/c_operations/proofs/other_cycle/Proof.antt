@@ -35,14 +35,23 @@ same-length-2 c = search needs
 returns-2 : tie.Need-returns-2
 returns-2 c = search needs
 
-typed-requires : tie.Need-typed-requires
-typed-requires c κs = search needs
+low-cycle-requires : tie.Need-low-cycle-requires
+low-cycle-requires c κs = search needs
 
 same-length-3 : tie.Need-same-length-3
 same-length-3 c = search needs
 
 returns-3 : tie.Need-returns-3
 returns-3 c = search needs
+
+low-cycle-requires-2 : tie.Need-low-cycle-requires-2
+low-cycle-requires-2 c κs = search needs
+
+same-length-4 : tie.Need-same-length-4
+same-length-4 c = search needs
+
+returns-4 : tie.Need-returns-4
+returns-4 c = search needs
 
 pub other-cycle-spec : {M : Type 1} → statement M
 other-cycle-spec =
@@ -56,6 +65,9 @@ other-cycle-spec =
     poll-cycle-requires
     same-length-2
     returns-2
-    typed-requires
+    low-cycle-requires
     same-length-3
-    returns-3)
+    returns-3
+    low-cycle-requires-2
+    same-length-4
+    returns-4)

@@ -14,7 +14,7 @@ is-running-requires : tie.Need-is-running-requires
 is-running-requires c κs = search needs
 
 end-cycle-requires : tie.Need-end-cycle-requires
-end-cycle-requires c κs = (c .before .before .before .before .is-running .ensures (c .before .before .before .if1 .taken) (c .before .before .before .before .before .before .before .pre .1), counted (c .before .before .before .before .before .before .before .args .d) (c .before .before .before .before .before .before .before .args .array .now) (c .before .before .before .before .before .before .before .pre .0 .ordinary .sized))
+end-cycle-requires c κs = (c .before .before .before .before .is-running .ensures (c .before .before .before .if1 .taken) (c .before .before .before .before .before .before .before .pre .1), counted (c .before .before .before .before .before .before .before .args .d) (c .before .before .before .before .before .before .before .args .array .now) (c .before .before .before .before .before .before .before .pre .0 .ordinary .fair .sized))
 
 same-length : tie.Need-same-length
 same-length c = search needs
