@@ -42,7 +42,8 @@ use Rattle.c_cycle.specs.declared.AnswerNumbers.{AnswerNumbers}
 use Rattle.c_ordinary.specs.Ordinary.{Fair, Resting, restedAs}
 use Rattle.c_ordinary.proofs.Passing.{passes}
 use Rattle.c_ordinary.proofs.Rest as rests
-use Rattle.c_operations.specs.Operations.{Running, Cutting, phaseOf, cutIn, cutTakes, cutStatus, cutAs, seenIn, shownIn}
+use Rattle.c_answers.specs.Answers.{cutStatus, cutAs, seenIn, shownIn}
+use Rattle.c_operations.specs.Operations.{Running, Cutting, phaseOf, cutIn, cutTakes}
 use Rattle.c_operations.proofs.Running.{pending, going, is-going, is-proper}
 use Rattle.c_operations.proofs.Doing.{Does, does, by-kind}
 

@@ -35,7 +35,7 @@ use Rattle.c_cycle.specs.declared.DeviceNumbers.{DeviceNumbers}
 use Rattle.c_cycle.specs.declared.StateNumbers.{StateNumbers}
 use Rattle.c_cycle.specs.declared.BusNumbers.{BusNumbers}
 use Rattle.c_cycle.specs.declared.AnswerNumbers.{AnswerNumbers}
-use Rattle.c_operations.specs.Operations.{seenIn, shownIn}
+use Rattle.c_answers.specs.Answers.{seenIn, shownIn}
 
 -- an answer, and what the array must hold after such an effect
 abbrev pub Does : DeviceNumbers → StateNumbers → BusNumbers → List ℕ → List ℕ → Effect → AnswerNumbers → Type 0

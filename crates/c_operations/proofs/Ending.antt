@@ -44,7 +44,8 @@ use Rattle.c_cycle.specs.declared.DeviceNumbers.{DeviceNumbers}
 use Rattle.c_cycle.specs.declared.StateNumbers.{StateNumbers}
 use Rattle.c_cycle.specs.declared.BusNumbers.{BusNumbers}
 use Rattle.c_ordinary.proofs.Passing.{passes}
-use Rattle.c_operations.specs.Operations.{Running, Supplied, Ending, phaseOf, endIn, endedAs, seenIn, shownIn}
+use Rattle.c_answers.specs.Answers.{endedAs, seenIn, shownIn}
+use Rattle.c_operations.specs.Operations.{Running, Supplied, Ending, phaseOf, endIn}
 use Rattle.c_operations.proofs.Running.{going, is-going, is-proper}
 use Rattle.c_operations.proofs.Doing.{Does, by-kind}
 

@@ -39,7 +39,8 @@ use Rattle.c_cycle.specs.declared.BusNumbers.{BusNumbers}
 use Rattle.c_cycle.proofs.Border.{state-numbers}
 use Rattle.c_ordinary.proofs.Passing.{Stands}
 use Rattle.c_ordinary.proofs.Passing as passing
-use Rattle.c_operations.specs.Operations.{Suspending, Suspended, Supplied, polledAs, writtenAs, givenAs, seenIn, shownIn}
+use Rattle.c_answers.specs.Answers.{polledAs, writtenAs, givenAs, seenIn, shownIn}
+use Rattle.c_operations.specs.Operations.{Suspending, Suspended, Supplied}
 use Rattle.c_operations.proofs.Moving.{Told, told-by, polls, writes}
 
 -- a suspend is under way

@@ -34,7 +34,7 @@ use Rattle.c_cycle.specs.declared.StateNumbers.{StateNumbers}
 use Rattle.c_cycle.specs.declared.BusNumbers.{BusNumbers}
 use Rattle.c_cycle.specs.declared.AnswerNumbers.{AnswerNumbers}
 use Rattle.c_ordinary.specs.Ordinary.{Ordinary}
-use Rattle.c_operations.specs.Operations.{seenIn, shownIn}
+use Rattle.c_answers.specs.Answers.{seenIn, shownIn}
 use Rattle.c_ordinary.proofs.Passing.{Stands}
 use Rattle.c_ordinary.proofs.Passing as passing
 

@@ -31,7 +31,8 @@ use Rattle.c_cycle.specs.declared.BusNumbers.{BusNumbers}
 use Rattle.c_cycle.proofs.Border.{state-numbers}
 use Rattle.c_ordinary.specs.Ordinary.{Ordinary}
 use Rattle.c_ordinary.proofs.Passing.{Stands}
-use Rattle.c_operations.specs.Operations.{Running, phaseOf, polledAs, writtenAs, seenIn, shownIn}
+use Rattle.c_answers.specs.Answers.{polledAs, writtenAs, seenIn, shownIn}
+use Rattle.c_operations.specs.Operations.{Running, phaseOf}
 use Rattle.c_operations.proofs.Moving.{Told, polls, writes}
 
 -- what is busy is an operation under way, not suspended, and awaits nothing

@@ -32,7 +32,8 @@ use Rattle.c_cycle.specs.declared.DeviceNumbers.{DeviceNumbers}
 use Rattle.c_cycle.specs.declared.StateNumbers.{StateNumbers}
 use Rattle.c_cycle.specs.declared.BusNumbers.{BusNumbers}
 use Rattle.c_ordinary.proofs.Passing.{Stands}
-use Rattle.c_operations.specs.Operations.{Awaiting, Starting, Supplied, writtenAs, wornIn}
+use Rattle.c_answers.specs.Answers.{writtenAs, wornIn}
+use Rattle.c_operations.specs.Operations.{Awaiting, Starting, Supplied}
 use Rattle.c_operations.proofs.Moving.{Told, writes}
 
 -- what is awaited: the confirm of an erase, or the data of a program; its number, and the phase

@@ -4,24 +4,20 @@ use mathlib.Core.Path.{_≡_}
 use mathlib.Core.Bool.{true, false}
 use Prim.Native.Nat.{ℕ, _/_, _%_, _≤_, _<_}
 use lib.Dec.{eqb}
-use lib.Bits.{bitAnd, bitOr}
 use Rattle.common.specs.Choice.{if_then_else_}
 use Rattle.device.specs.declared.Part.{Part}
 use Rattle.device.specs.Parts.{sizeOf}
 use Rattle.model_types.specs.declared.Phase.{Phase}
 use Rattle.model_types.specs.declared.Effect.{Effect}
 use Rattle.model_levels.specs.Levels.{vppLow, locked}
-use Rattle.model_types.specs.Counts.{worn}
 use Rattle.model_types.specs.Phases.{isBusy, isSuspending}
 use Rattle.model_states.specs.States.{mostLeft}
 use Rattle.model_operation.specs.Settling.{cutOf, finishOf, residueFor}
-use Rattle.c_cycle.specs.Values.{deviceIn, phaseIn, noState, wearIn, wearOut, cycleIn}
+use Rattle.c_cycle.specs.Values.{deviceIn, phaseIn, noState, cycleIn}
 use Rattle.c_cycle.specs.declared.DeviceNumbers.{DeviceNumbers}
 use Rattle.c_cycle.specs.declared.StateNumbers.{StateNumbers}
 use Rattle.c_cycle.specs.declared.BusNumbers.{BusNumbers}
-use Rattle.c_cycle.specs.declared.AnswerNumbers.{AnswerNumbers}
-use Rattle.c_cycle.specs.declared.WearNumbers.{WearNumbers}
-use Rattle.c_ordinary.specs.Ordinary.{Ordinary, restedAs}
+use Rattle.c_ordinary.specs.Ordinary.{Ordinary}
 
 -- the phase that a state's numbers name
 abbrev pub phaseOf : StateNumbers → Phase
@@ -97,62 +93,6 @@ pub record Supplied (d : DeviceNumbers) (b : BusNumbers) (len : ℕ) : Type 0 wh
   pub ordinary : Ordinary d b len
   pub supplied : vppLow (deviceIn d .part) (cycleIn b .pins) ≡ false
 
--- whether a poll gives data: a read does
-unfoldable pub seenIn : ℕ → ℕ
-seenIn kind = if eqb kind 0 then 1 else 0
-
--- what it gives: the status, or nothing
-unfoldable pub shownIn : ℕ → ℕ → ℕ
-shownIn kind sr = if eqb kind 0 then sr else 0
-
--- a read or an idle cycle, by what it leaves: a read gives the status that it leaves
-abbrev pub polledAs : StateNumbers → ℕ → ℕ → ℕ → ℕ → ℕ → AnswerNumbers
-polledAs n kind sr phase suspend left =
-    record {
-      seen = seenIn kind;
-      value = shownIn kind sr;
-      state = record {
-        mode = 1;
-        status = sr;
-        phase = phase;
-        suspend = suspend;
-        left = left;
-        «data» = n .data;
-        address = n .address;
-        wear = n .wear;
-      };
-    }
-
--- a write, by what it leaves
-abbrev pub writtenAs : WearNumbers → ℕ → ℕ → ℕ → ℕ → ℕ → ℕ → ℕ → AnswerNumbers
-writtenAs w mode sr phase suspend left unit address =
-    record {
-      seen = 0;
-      value = 0;
-      state = record {
-        mode = mode;
-        status = sr;
-        phase = phase;
-        suspend = suspend;
-        left = left;
-        «data» = unit;
-        address = address;
-        wear = w;
-      };
-    }
-
--- the counts after one more erase of a block
-abbrev pub wornIn : WearNumbers → ℕ → WearNumbers
-wornIn w k = wearOut (worn (wearIn w) k)
-
--- a value, and the state as it was
-abbrev pub givenAs : StateNumbers → ℕ → AnswerNumbers
-givenAs n v = record { seen = 1; value = v; state = n }
-
--- what is seen of an end, and the state at rest: a read gives the status that is left
-abbrev pub endedAs : StateNumbers → ℕ → AnswerNumbers
-endedAs n kind = restedAs n (seenIn kind) (shownIn kind (bitOr (n .status) 0x80)) 1 (bitOr (n .status) 0x80) 0
-
 -- RP# as it is up
 unfoldable pub raisedIn : ℕ → ℕ
 raisedIn rp = if eqb rp 0 then 1 else rp
@@ -169,13 +109,3 @@ cutIn part n = cutOf (phaseOf n) part (n .address)
 -- the units of residue that it takes
 abbrev pub cutTakes : Part → StateNumbers → ℕ
 cutTakes part n = residueFor (phaseOf n) part (n .address)
-
--- the status after a cut by VPP
-abbrev pub cutStatus : ℕ → ℕ → ℕ
-cutStatus sr bits = bitOr (bitAnd sr 0xBF) bits
-
--- what is seen of a cut, and the state at rest: after a reset nothing, after a cut by VPP a read gives the status
-unfoldable pub cutAs : StateNumbers → BusNumbers → ℕ → AnswerNumbers
-cutAs n b bits =
-    if eqb (b .rp) 0 then restedAs n 0 0 0 0x80 0
-    else restedAs n (seenIn (b .kind)) (shownIn (b .kind) (cutStatus (n .status) bits)) 1 (cutStatus (n .status) bits) 0

@@ -1,21 +1,23 @@
 // A bus cycle while an operation is awaited, running or suspended, from numbers to numbers. What a sufficient test knows is answered from
 // the numbers; every other cycle goes the typed way, and is judged there alone.
+use c_answers::cut;
+use c_answers::ended;
+use c_answers::given;
+use c_answers::polled;
+use c_answers::typed;
+use c_answers::worn;
+use c_answers::written;
 use c_cycle::AnswerNumbers;
 use c_cycle::BusNumbers;
 use c_cycle::DeviceNumbers;
 use c_cycle::StateNumbers;
-use c_cycle::counts;
-use c_cycle::states::answer_out;
 use c_cycle::states::cycle_in;
-use c_cycle::states::device_in;
 use c_cycle::states::part_in;
 use c_cycle::states::pins_in;
-use c_cycle::states::state_in;
 use c_ordinary::is_level;
 use c_ordinary::is_resting;
 use c_ordinary::is_timed;
 use c_ordinary::key_of;
-use c_ordinary::rested;
 use c_ordinary::units_of;
 use model_levels::locked;
 use model_levels::vpp_low;
@@ -25,7 +27,6 @@ ghost use mathlib.Core.List.{List};
 ghost use Prim.Native.Nat.{ℕ, _≤_, _<_};
 ghost use lib.ListN.{length};
 ghost use lib.Dec.{eqb};
-ghost use lib.Bits.{bitAnd};
 ghost use Rattle.units.specs.Units.{units, spare};
 ghost use Rattle.device.specs.Parts.{sizeOf, blockOf};
 ghost use Rattle.model_levels.specs.Levels.{locked};
@@ -33,9 +34,9 @@ ghost use Rattle.model.specs.Inner.{doneOf};
 ghost use Rattle.c_cycle.specs.Values.{deviceIn, cycleIn};
 ghost use Rattle.c_cycle.specs.Answers.{cycled, arrayCycled};
 ghost use Rattle.c_operations.specs.Operations.{Running, Ending, Suspending, Suspended, Awaiting, Starting, Supplied, endIn};
-ghost use Rattle.c_operations.specs.Operations.{seenIn, shownIn, polledAs, writtenAs, wornIn, givenAs, endedAs};
-ghost use Rattle.c_operations.specs.Operations.{raisedIn, Cutting, cutAs};
+ghost use Rattle.c_operations.specs.Operations.{raisedIn, Cutting};
 ghost use Rattle.c_ordinary.specs.Ordinary.{Fair};
+ghost use Rattle.c_answers.specs.Answers.{endedAs};
 
 // An operation is running, in a proper state, where its address is inside the array.
 fn is_running(d: DeviceNumbers, n: StateNumbers) -> bool
@@ -52,44 +53,6 @@ fn is_running(d: DeviceNumbers, n: StateNumbers) -> bool
         return n.left <= d.program;
     }
     (key / 16384 == 16) & (n.data == 0) & (n.left <= d.erase)
-}
-
-// The typed way.
-fn typed(
-    device: DeviceNumbers,
-    state: StateNumbers,
-    bus: BusNumbers,
-    array: &mut [u8],
-    residue: &[u8],
-) -> AnswerNumbers
-    ensures result { λ r. ⌜ r ≡ cycled device state bus (now (array .entry)) (now (residue .entry)) ⌝ }
-    ensures array_left { λ _. ⌜ now (array .exit) ≡ arrayCycled device state bus (now (array .entry)) (now (residue .entry)) ⌝ }
-{
-    let d = device_in(device);
-    let s = state_in(state);
-    let c = cycle_in(bus);
-    let a = model::cycle(d, s, c, array, residue);
-    answer_out(state, a)
-}
-
-// Whether a poll gives data: a read does.
-fn seen_in(kind: u8) -> u8
-    ensures { λ r. ⌜ r ≡ seenIn kind ⌝ }
-{
-    if kind == 0 {
-        return 1;
-    }
-    0
-}
-
-// What it gives: the status, or nothing.
-fn shown_in(kind: u8, status: u8) -> u16
-    ensures { λ r. ⌜ r ≡ shownIn kind status ⌝ }
-{
-    if kind == 0 {
-        return units::wide(status);
-    }
-    0
 }
 
 // A suspend is under way, in a proper state, where its address is inside the array.
@@ -138,88 +101,6 @@ fn is_awaiting(n: StateNumbers, phase: u8) -> bool
     (key % 2048 == 1) & (key / 16384 == 4 * (phase as u32) + 2)
 }
 
-// A read or an idle cycle, by what it leaves.
-fn polled(n: StateNumbers, kind: u8, status: u8, phase: u8, suspend: u8, left: u16) -> AnswerNumbers
-    ensures { λ r. ⌜ r ≡ polledAs n kind status phase suspend left ⌝ }
-{
-    let w = n.wear;
-    AnswerNumbers {
-        seen: seen_in(kind),
-        value: shown_in(kind, status),
-        state: StateNumbers {
-            mode: 1,
-            status: status,
-            phase: phase,
-            suspend: suspend,
-            left: left,
-            data: n.data,
-            address: n.address,
-            wear: w,
-        },
-    }
-}
-
-// A write, by what it leaves.
-fn written(
-    n: StateNumbers,
-    mode: u8,
-    status: u8,
-    phase: u8,
-    suspend: u8,
-    left: u16,
-    unit: u16,
-    address: u32,
-) -> AnswerNumbers
-    ensures { λ r. ⌜ r ≡ writtenAs (n .wear) mode status phase suspend left unit address ⌝ }
-{
-    let w = n.wear;
-    AnswerNumbers {
-        seen: 0,
-        value: 0,
-        state: StateNumbers {
-            mode: mode,
-            status: status,
-            phase: phase,
-            suspend: suspend,
-            left: left,
-            data: unit,
-            address: address,
-            wear: w,
-        },
-    }
-}
-
-// A start of an erase, counted at its block.
-fn worn(n: StateNumbers, time: u16, address: u32, block: u8) -> AnswerNumbers
-    ensures { λ r. ⌜ r ≡ writtenAs (wornIn (n .wear) block) 1 (bitAnd (n .status) 0x7F) 4 0 time 0 address ⌝ }
-{
-    let w = n.wear;
-    let more = model_types::counts::wear_out(counts::wear_in(w), block);
-    let m = counts::wear_out(more);
-    AnswerNumbers {
-        seen: 0,
-        value: 0,
-        state: StateNumbers {
-            mode: 1,
-            status: n.status & 0x7F,
-            phase: 4,
-            suspend: 0,
-            left: time,
-            data: 0,
-            address: address,
-            wear: m,
-        },
-    }
-}
-
-// What is seen of an end, and the state at rest.
-fn ended(n: StateNumbers, kind: u8) -> AnswerNumbers
-    ensures { λ r. ⌜ r ≡ endedAs n kind ⌝ }
-{
-    let status = n.status | 0x80;
-    rested(n, seen_in(kind), shown_in(kind, status), 1, status, 0)
-}
-
 // An end: the array, and what is seen.
 fn end_cycle(d: DeviceNumbers, n: StateNumbers, kind: u8, array: &mut [u8]) -> AnswerNumbers
     requires { ⌜ (Running d n) × (length (units (deviceIn d .part .word) (now array)) ≡ sizeOf (deviceIn d .part)) ⌝ }
@@ -237,17 +118,6 @@ fn end_cycle(d: DeviceNumbers, n: StateNumbers, kind: u8, array: &mut [u8]) -> A
     let span = device::block_span(part, device::block_of(part, n.address));
     units::erase_units(d.word == 1, array, span.first, span.length);
     ended(n, kind)
-}
-
-// A unit of the array, and the state as it was.
-fn given(n: StateNumbers, v: u16) -> AnswerNumbers
-    ensures { λ r. ⌜ r ≡ givenAs n v ⌝ }
-{
-    AnswerNumbers {
-        seen: 1,
-        value: v,
-        state: n,
-    }
 }
 
 // Another block than that of the erase.
@@ -517,17 +387,6 @@ fn is_cutting(d: DeviceNumbers, b: BusNumbers) -> bool
     }
     let part = part_in(d.number, d.word);
     vpp_low(part, pins_in(b.rp, b.wp, b.vpp))
-}
-
-// What is seen of a cut, and the state at rest: as after a reset where RP# is low, and else with such bits in the status.
-fn cut(n: StateNumbers, b: BusNumbers, bits: u8) -> AnswerNumbers
-    ensures { λ r. ⌜ r ≡ cutAs n b bits ⌝ }
-{
-    if b.rp == 0 {
-        return rested(n, 0, 0, 0, 0x80, 0);
-    }
-    let status = n.status & 0xBF | bits;
-    rested(n, seen_in(b.kind), shown_in(b.kind, status), 1, status, 0)
 }
 
 // A cut of a program: the residue's first unit says which bits stay.

@@ -1,10 +1,10 @@
--- `c_operations::ended` meets its contract.
+-- `c_answers::ended` meets its contract.
 use mathlib.Core.Path.{_≡_, sym, ap, _∙_}
 use lib.Bits.{bitOr}
 use Rattle.c_ordinary.specs.Ordinary.{restedAs}
 use borrow.Author.Needs.{needs}
-use Rattle.c_operations.proofs.ended.Statement.{statement}
-use Rattle.c_operations.proofs.ended.Tie as tie
+use Rattle.c_answers.proofs.ended.Statement.{statement}
+use Rattle.c_answers.proofs.ended.Tie as tie
 
 seen-in-requires : tie.Need-seen-in-requires
 seen-in-requires c κs = search needs

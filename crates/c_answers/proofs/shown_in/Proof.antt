@@ -1,10 +1,10 @@
--- `c_operations::shown_in` meets its contract.
+-- `c_answers::shown_in` meets its contract.
 use mathlib.Core.Path.{_∙_}
 use borrow.Author.Tests.{eq-eqb, ne-eqb}
-use Rattle.c_operations.specs.Operations.{shownIn}
+use Rattle.c_answers.specs.Answers.{shownIn}
 use borrow.Author.Needs.{needs}
-use Rattle.c_operations.proofs.shown_in.Statement.{statement}
-use Rattle.c_operations.proofs.shown_in.Tie as tie
+use Rattle.c_answers.proofs.shown_in.Statement.{statement}
+use Rattle.c_answers.proofs.shown_in.Tie as tie
 
 wide-requires : tie.Need-wide-requires
 wide-requires c κs = search needs

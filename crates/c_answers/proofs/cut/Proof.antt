@@ -1,11 +1,11 @@
--- `c_operations::cut` meets its contract.
+-- `c_answers::cut` meets its contract.
 use mathlib.Core.Path.{_≡_, sym, ap, _∙_}
 use borrow.Author.Tests.{eq-eqb, ne-eqb}
 use Rattle.c_ordinary.specs.Ordinary.{restedAs}
-use Rattle.c_operations.specs.Operations.{cutStatus, cutAs}
+use Rattle.c_answers.specs.Answers.{cutStatus, cutAs}
 use borrow.Author.Needs.{needs}
-use Rattle.c_operations.proofs.cut.Statement.{statement}
-use Rattle.c_operations.proofs.cut.Tie as tie
+use Rattle.c_answers.proofs.cut.Statement.{statement}
+use Rattle.c_answers.proofs.cut.Tie as tie
 
 rested-requires : tie.Need-rested-requires
 rested-requires c κs = search needs

@@ -1,7 +1,7 @@
 use borrow.Author.Needs.{needs}
 use Rattle.c_cycle.proofs.Cycles.{cycle-given}
-use Rattle.c_operations.proofs.typed.Statement.{statement}
-use Rattle.c_operations.proofs.typed.Tie as tie
+use Rattle.c_answers.proofs.typed.Statement.{statement}
+use Rattle.c_answers.proofs.typed.Tie as tie
 
 device-in-requires : tie.Need-device-in-requires
 device-in-requires c κs = search needs

@@ -1,9 +1,9 @@
--- `c_operations::seen_in` meets its contract.
+-- `c_answers::seen_in` meets its contract.
 use borrow.Author.Tests.{eq-eqb, ne-eqb}
-use Rattle.c_operations.specs.Operations.{seenIn}
+use Rattle.c_answers.specs.Answers.{seenIn}
 use borrow.Author.Needs.{needs}
-use Rattle.c_operations.proofs.seen_in.Statement.{statement}
-use Rattle.c_operations.proofs.seen_in.Tie as tie
+use Rattle.c_answers.proofs.seen_in.Statement.{statement}
+use Rattle.c_answers.proofs.seen_in.Tie as tie
 
 returns : tie.Need-returns
 unfolding seenIn

@@ -1,7 +1,7 @@
--- `c_operations::polled` meets its contract.
+-- `c_answers::polled` meets its contract.
 use borrow.Author.Needs.{needs}
-use Rattle.c_operations.proofs.polled.Statement.{statement}
-use Rattle.c_operations.proofs.polled.Tie as tie
+use Rattle.c_answers.proofs.polled.Statement.{statement}
+use Rattle.c_answers.proofs.polled.Tie as tie
 
 seen-in-requires : tie.Need-seen-in-requires
 seen-in-requires c κs = search needs

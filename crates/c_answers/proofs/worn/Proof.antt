@@ -1,14 +1,14 @@
--- `c_operations::worn` meets its contract.
+-- `c_answers::worn` meets its contract.
 use mathlib.Core.Path.{_≡_, sym, ap, _∙_}
 use lib.Bits.{bitAnd}
 use Rattle.model_types.specs.declared.Wear.{Wear}
 use Rattle.model_types.specs.Counts.{worn}
 use Rattle.c_cycle.specs.Values.{wearOut}
 use Rattle.c_cycle.specs.declared.WearNumbers.{WearNumbers}
-use Rattle.c_operations.specs.Operations.{writtenAs}
+use Rattle.c_answers.specs.Answers.{writtenAs}
 use borrow.Author.Needs.{needs}
-use Rattle.c_operations.proofs.worn.Statement.{statement}
-use Rattle.c_operations.proofs.worn.Tie as tie
+use Rattle.c_answers.proofs.worn.Statement.{statement}
+use Rattle.c_answers.proofs.worn.Tie as tie
 
 wear-in-requires : tie.Need-wear-in-requires
 wear-in-requires c κs = search needs
