@@ -170,7 +170,7 @@ fn erasing(d: Device, array: &[u8], polls: &[u32], addresses: &[u32], room: &mut
     }
 }
 
-// What the interruptions of a job come to, and the room filled where one is made. Nothing where no erase begins.
+// What the interruptions of a job come to, and the room filled where one is made. Nothing where none is listed or no erase begins.
 fn interrupted(
     j: Job,
     array: &[u8],
@@ -186,6 +186,12 @@ fn interrupted(
         ≡ roomFor j (now (array .entry)) (now (wanted .entry)) (now (addresses .entry)) (now (polls .entry)) (now (room .entry)) ⌝ }
     ensures bounded { λ r. ⌜ r .cycles ≤ 9000000000 ⌝ }
 {
+    if polls.len() == 0 {
+        return Extra {
+            cycles: 0,
+            last: false,
+        };
+    }
     let d = j.device;
     let p = j.pins;
     let part = d.part;
