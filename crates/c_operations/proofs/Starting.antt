@@ -5,12 +5,13 @@ use mathlib.Core.List.{List}
 use Prim.Native.Nat.{ℕ, _/_, _%_}
 use native.Mathlib.Omega.{arith}
 use lib.ListN.{length}
-use lib.Dec.{eqb}
+use lib.Dec.{eqb, ltb}
 use lib.Bits.{bitAnd}
-use borrow.Author.Tests.{eq-eqb, le-ltb}
-use Rattle.common.proofs.Choice.{and-none}
+use borrow.Author.Tests.{eq-eqb, ne-eqb, le-ltb}
+use Rattle.common.proofs.Choice.{if-false, and-none}
 use Rattle.units.specs.Units.{carried}
 use Rattle.device.specs.Parts.{blockOf}
+use Rattle.device.specs.declared.Part.{Part}
 use Rattle.device.specs.declared.Device.{Device}
 use Rattle.model_types.specs.declared.Mode.the-variants.{Status}
 use Rattle.model_types.specs.declared.Phase.the-variants.{EraseAwaited, DataAwaited, Programming, Erasing}
@@ -20,14 +21,14 @@ use Rattle.model_types.specs.declared.Action.the-variants.{Confirm, Store}
 use Rattle.model_types.specs.declared.Effect.the-variants.{Nothing}
 use Rattle.model_types.specs.declared.State.{State}
 use Rattle.model_types.specs.declared.Cycle.{Cycle}
-use Rattle.model_levels.specs.Levels.{rpLow, vppLow, locked}
+use Rattle.model_levels.specs.Levels.{rpLow, vppLow, unlocked, locked}
 use Rattle.model_states.specs.States.{proper, improper}
 use Rattle.model_commands.specs.Commands.{actionOf, afterErase, isRefuse}
 use Rattle.model_operation.specs.Settling.{settledAs, settleOf}
 use Rattle.model_types.specs.Status.{SR4, SR5}
 use Rattle.model_actions.specs.Performed.{dataOf, unsupplied, wearBy, startedOf, performedOf}
 use Rattle.model_judge.specs.Judging.{shortResidue}
-use Rattle.c_cycle.specs.Values.{deviceIn, modeIn, phaseIn, strayData, straySuspend, noState, wearIn, stateIn, stateOut, cycleIn}
+use Rattle.c_cycle.specs.Values.{deviceIn, modeIn, phaseIn, strayData, straySuspend, noState, wearIn, stateIn, stateOut, pinsIn, oeIn, cycleIn}
 use Rattle.c_cycle.specs.declared.DeviceNumbers.{DeviceNumbers}
 use Rattle.c_cycle.specs.declared.StateNumbers.{StateNumbers}
 use Rattle.c_cycle.specs.declared.BusNumbers.{BusNumbers}
@@ -122,3 +123,15 @@ confirmed d n b xs rs o g w e k u =
     let t = tells d n b xs rs o true g w Confirm asks refl in
     let f = starts d n b xs rs o true g Erasing (d .erase) SR5 in
     ((λ i. writtenAs (wornIn (n .wear) (u i)) 1 (bitAnd (n .status) 0x7F) 4 0 (d .erase) 0 (b .address)) ∙ (λ i. record { seen = 0; value = 0; state = stateOut (sym f i) }) ∙ t .0, t .1)
+
+-- for code: another block than the boot block is not locked, and neither is what is unlocked
+pub block-open : (part : Part) (c : Cycle) (k : ℕ) → k ≡ blockOf part (c .address) → (k ≡ 0 → ⊥) → locked part c ≡ false
+unfolding locked
+block-open part c k e z = simp (ap (λ (x : ℕ). eqb x 0) (sym e) ∙ ne-eqb k 0 z, and-none (not (unlocked part (c .pins) (c .oe))))
+
+pub level-open : (part : Part) (b : BusNumbers) → b .kind ≡ 1 → unlocked part (pinsIn (b .rp) (b .wp) (b .vpp)) (b .oe) ≡ true → locked part (cycleIn b) ≡ false
+unfolding locked oeIn
+level-open part b k e =
+    let q : oeIn (b .kind) (b .oe) ≡ b .oe = if-false (ltb 2 (b .kind)) 2 (b .oe) (le-ltb 2 (b .kind) (omega (arith, k))) in
+    let u : unlocked part (cycleIn b .pins) (cycleIn b .oe) ≡ true = ap (λ (x : ℕ). unlocked part (pinsIn (b .rp) (b .wp) (b .vpp)) x) q ∙ e in
+    simp u

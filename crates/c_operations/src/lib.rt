@@ -1,5 +1,6 @@
-// A bus cycle while an operation is awaited, running or suspended, from numbers to numbers. What a sufficient test knows is answered from
-// the numbers; every other cycle goes the typed way, and is judged there alone.
+// A bus cycle while an operation is awaited, running or suspended, or is cut, from numbers to numbers. What a sufficient test knows is
+// answered from the numbers; every other cycle goes the typed way, and is judged there alone. Mode, status, phase and suspend are asked as
+// one number (`key_of`): 4 times a phase and 2 is that phase with SR.7 set, and 3 with SR.6 too.
 use c_answers::cut;
 use c_answers::ended;
 use c_answers::given;
@@ -11,7 +12,6 @@ use c_cycle::AnswerNumbers;
 use c_cycle::BusNumbers;
 use c_cycle::DeviceNumbers;
 use c_cycle::StateNumbers;
-use c_cycle::states::cycle_in;
 use c_cycle::states::part_in;
 use c_cycle::states::pins_in;
 use c_ordinary::is_level;
@@ -19,7 +19,7 @@ use c_ordinary::is_resting;
 use c_ordinary::is_timed;
 use c_ordinary::key_of;
 use c_ordinary::units_of;
-use model_levels::locked;
+use model_levels::unlocked;
 use model_levels::vpp_low;
 ghost use mathlib.Core.Path.{_≡_};
 ghost use mathlib.Core.Bool.{true, false};
@@ -29,16 +29,15 @@ ghost use lib.ListN.{length};
 ghost use lib.Dec.{eqb};
 ghost use Rattle.units.specs.Units.{units, spare};
 ghost use Rattle.device.specs.Parts.{sizeOf, blockOf};
-ghost use Rattle.model_levels.specs.Levels.{locked};
 ghost use Rattle.model.specs.Inner.{doneOf};
-ghost use Rattle.c_cycle.specs.Values.{deviceIn, cycleIn};
+ghost use Rattle.c_cycle.specs.Values.{deviceIn};
 ghost use Rattle.c_cycle.specs.Answers.{cycled, arrayCycled};
-ghost use Rattle.c_operations.specs.Operations.{Running, Ending, Suspending, Suspended, Awaiting, Starting, Supplied, endIn};
+ghost use Rattle.c_operations.specs.Operations.{Running, Suspending, Suspended, Awaiting, Starting, Supplied, endIn};
 ghost use Rattle.c_operations.specs.Operations.{raisedIn, Cutting};
 ghost use Rattle.c_ordinary.specs.Ordinary.{Fair};
 ghost use Rattle.c_answers.specs.Answers.{endedAs};
 
-// An operation is running, in a proper state, where its address is inside the array.
+// An operation is running, in a proper state, where its address is inside the array: phase 3, a program, or 4, an erase.
 fn is_running(d: DeviceNumbers, n: StateNumbers) -> bool
     ensures { λ r. ⌜ (r ≡ true → n .address < sizeOf (deviceIn d .part) → Running d n) ⌝ }
 {
@@ -55,7 +54,7 @@ fn is_running(d: DeviceNumbers, n: StateNumbers) -> bool
     (key / 16384 == 16) & (n.data == 0) & (n.left <= d.erase)
 }
 
-// A suspend is under way, in a proper state, where its address is inside the array.
+// A suspend is under way, in a proper state, where its address is inside the array: phase 6.
 fn is_suspending(d: DeviceNumbers, n: StateNumbers) -> bool
     ensures { λ r. ⌜ (r ≡ true → n .address < sizeOf (deviceIn d .part) → Suspending d n) ⌝ }
 {
@@ -75,7 +74,7 @@ fn is_suspending(d: DeviceNumbers, n: StateNumbers) -> bool
     (key / 16384 % 1024 == 24) & (n.data == 0) & (n.left <= d.erase)
 }
 
-// An erase is suspended, in a proper state, where its address is inside the array.
+// An erase is suspended, in a proper state, where its address is inside the array: phase 5, SR.7 and SR.6 set.
 fn is_suspended(d: DeviceNumbers, n: StateNumbers) -> bool
     ensures { λ r. ⌜ (r ≡ true → n .address < sizeOf (deviceIn d .part) → Suspended d n) ⌝ }
 {
@@ -234,25 +233,24 @@ fn suspend_write(
     a
 }
 
-// The address of this write is locked.
-fn is_locked(d: DeviceNumbers, b: BusNumbers) -> bool
-    ensures { λ r. ⌜ r ≡ locked (deviceIn d .part) (cycleIn b) ⌝ }
-{
-    let part = part_in(d.number, d.word);
-    locked(part, cycle_in(b))
-}
-
-// A second write may start its operation: SR.3 is clear, and the address not locked.
-fn is_starting(d: DeviceNumbers, n: StateNumbers, b: BusNumbers, phase: u8) -> bool
-    requires { ⌜ phase < 3 ⌝ }
-    ensures { λ r. ⌜ (r ≡ true → Starting d n b phase) ⌝ }
+// The block at which a second write starts its operation; 255 where it does not: SR.3 is set, or the address is locked.
+fn starting_block(d: DeviceNumbers, n: StateNumbers, b: BusNumbers, phase: u8) -> u8
+    requires { ⌜ (phase < 3) × (b .kind ≡ 1) ⌝ }
+    ensures { λ r. ⌜ ((r ≡ 255 → ⊥) → (Starting d n b phase) × (r ≡ blockOf (deviceIn d .part) (b .address))) ⌝ }
 {
     if is_awaiting(n, phase) {
         if n.status / 8 % 2 == 0 {
-            return !is_locked(d, b);
+            let part = part_in(d.number, d.word);
+            let k = device::block_of(part, b.address);
+            if k != 0 {
+                return k;
+            }
+            if unlocked(part, pins_in(b.rp, b.wp, b.vpp), b.oe) {
+                return 0;
+            }
         }
     }
-    false
+    255
 }
 
 // The second write of a program that starts.
@@ -267,7 +265,7 @@ fn data_write(
     ensures result { λ r. ⌜ r ≡ cycled d n b (now (array .entry)) (now (residue .entry)) ⌝ }
     ensures array_left { λ _. ⌜ now (array .exit) ≡ arrayCycled d n b (now (array .entry)) (now (residue .entry)) ⌝ }
 {
-    if is_starting(d, n, b, 2) {
+    if starting_block(d, n, b, 2) != 255 {
         let unit = units::carry(d.word == 1, b.data);
         return written(n, 1, n.status & 0x7F, 3, 0, d.program, unit, b.address);
     }
@@ -288,9 +286,9 @@ fn confirm_write(
     ensures array_left { λ _. ⌜ now (array .exit) ≡ arrayCycled d n b (now (array .entry)) (now (residue .entry)) ⌝ }
 {
     if b.data % 256 == 0xD0 {
-        if is_starting(d, n, b, 1) {
-            let part = part_in(d.number, d.word);
-            return worn(n, d.erase, b.address, device::block_of(part, b.address));
+        let k = starting_block(d, n, b, 1);
+        if k != 255 {
+            return worn(n, d.erase, b.address, k);
         }
     }
     let a = typed(d, n, b, array, residue);
@@ -459,7 +457,7 @@ fn cut_cycle(
     a
 }
 
-// A cycle that is not supplied.
+// A cycle that is not supplied. It has two callers, so that the compiler lays it into neither.
 fn low_cycle(
     d: DeviceNumbers,
     n: StateNumbers,

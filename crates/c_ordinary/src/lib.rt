@@ -107,7 +107,8 @@ pub fn is_ordinary(n: DeviceNumbers, b: BusNumbers, len: usize) -> bool
     false
 }
 
-// The first four numbers of a state as one, which is one load.
+// The first four numbers of a state as one, which is one load. Its remainder by 2,048 has the mode and SR.2 to SR.0; its quotient by 16,384
+// has SR.7 and SR.6 (0 to 3), four times the phase, and 1,024 times the suspend.
 pub fn key_of(n: StateNumbers) -> u32
     ensures { λ r. ⌜ (r ≡ keyOf n) × (n .mode < 256) × (n .status < 256) × (n .phase < 256) ⌝ }
 {

@@ -1,31 +1,24 @@
 -- `c_operations::confirm_write` meets its contract.
-use mathlib.Core.Path.{_≡_, sym, ap, _∙_}
-use Rattle.device.specs.declared.Part.{Part}
-use Rattle.device.specs.Parts.{blockOf}
+use mathlib.Core.Path.{_∙_}
+use native.Mathlib.Omega.{arith}
 use Rattle.c_operations.proofs.Starting.{confirmed}
 use borrow.Author.Needs.{needs}
 use Rattle.c_operations.proofs.confirm_write.Statement.{statement}
 use Rattle.c_operations.proofs.confirm_write.Tie as tie
 
-is-starting-requires : tie.Need-is-starting-requires
-is-starting-requires c κs = search needs
-
-part-in-requires : tie.Need-part-in-requires
-part-in-requires c κs = search needs
-
-block-of-requires : tie.Need-block-of-requires
-block-of-requires c κs = search needs
+starting-block-requires : tie.Need-starting-block-requires
+starting-block-requires c κs = (omega arith, c .before .before .before .before .pre .2)
 
 worn-requires : tie.Need-worn-requires
 worn-requires c κs = search needs
 
 returns : tie.Need-returns
-returns c = let a = c .before .before .before .before .before .before .before .before .before .args in
-    let p = c .before .before .before .before .before .before .before .before .before .pre in
+returns c = let a = c .before .before .before .before .before .before .before .args in
+    let p = c .before .before .before .before .before .before .before .pre in
     let xs = a .array .now in
     let rs = a .residue .now in
-    let t = confirmed (a .d) (a .n) (a .b) xs rs (p .0) (c .before .before .before .before .is-starting .ensures (c .before .before .before .if2 .taken)) (p .2) (c .before .before .before .before .before .if1 .taken) _ (c .before .block-of .ensures ∙ ap (λ (x : Part). blockOf x (a .b .address)) (c .before .before .part-in .ensures)) in
-    (c .worn .ensures ∙ t .0, t .1 (λ i. c .before .before .before .before .before .before .before .before .slice-known .given i .fits))
+    let t = (let q = c .before .before .starting-block .ensures (c .before .if2 .taken) in confirmed (a .d) (a .n) (a .b) xs rs (p .0) (q .0) (p .2) (c .before .before .before .if1 .taken) _ (q .1)) in
+    (c .worn .ensures ∙ t .0, t .1 (λ i. c .before .before .before .before .before .before .slice-known .given i .fits))
 
 typed-requires : tie.Need-typed-requires
 typed-requires c κs = search needs
@@ -40,9 +33,7 @@ pub confirm-write-spec : {M : Type 1} → statement M
 confirm-write-spec =
     tie.close
     (tie.spec
-    is-starting-requires
-    part-in-requires
-    block-of-requires
+    starting-block-requires
     worn-requires
     returns
     typed-requires

@@ -1,12 +1,13 @@
 -- `c_operations::data_write` meets its contract.
-use mathlib.Core.Path.{_≡_, sym, ap, _∙_}
+use mathlib.Core.Path.{_∙_}
+use native.Mathlib.Omega.{arith}
 use Rattle.c_operations.proofs.Starting.{started}
 use borrow.Author.Needs.{needs}
 use Rattle.c_operations.proofs.data_write.Statement.{statement}
 use Rattle.c_operations.proofs.data_write.Tie as tie
 
-is-starting-requires : tie.Need-is-starting-requires
-is-starting-requires c κs = search needs
+starting-block-requires : tie.Need-starting-block-requires
+starting-block-requires c κs = (omega arith, c .before .before .pre .2)
 
 carry-requires : tie.Need-carry-requires
 carry-requires c κs = search needs
@@ -19,7 +20,7 @@ returns c = let a = c .before .before .before .before .before .before .before .b
     let p = c .before .before .before .before .before .before .before .before .pre in
     let xs = a .array .now in
     let rs = a .residue .now in
-    let t = started (a .d) (a .n) (a .b) xs rs (p .0) (c .before .before .before .before .before .is-starting .ensures (c .before .before .before .before .if1 .taken)) (p .2) _ (c .before .before .carry .ensures) in
+    let t = started (a .d) (a .n) (a .b) xs rs (p .0) (c .before .before .before .before .before .starting-block .ensures (c .before .before .before .before .if1 .taken) .0) (p .2) _ (c .before .before .carry .ensures) in
     (c .written .ensures ∙ t .0, t .1 (λ i. c .before .before .before .before .before .before .before .slice-known .given i .fits))
 
 typed-requires : tie.Need-typed-requires
@@ -35,7 +36,7 @@ pub data-write-spec : {M : Type 1} → statement M
 data-write-spec =
     tie.close
     (tie.spec
-    is-starting-requires
+    starting-block-requires
     carry-requires
     written-requires
     returns
