@@ -6,7 +6,7 @@ use Prim.Native.Nat.{ℕ}
 use native.Mathlib.Omega.{arith}
 use lib.ListN.{length}
 use lib.Dec.{eqb}
-use borrow.Author.Tests.{eqb-true, eqb-false, not-false}
+use borrow.Author.Tests.{eqb-true, eqb-false, eq-eqb, ne-eqb, not-false}
 use Rattle.common.specs.Lists.{Bytes}
 use Rattle.common.proofs.Choice.{if-true, if-false, or-right, unlike}
 use Rattle.common.proofs.Numbers.{given-no-row, no-head, no-tail}
@@ -30,7 +30,7 @@ use Rattle.model.proofs.Borders.{stopped-answer, passed-answer, passed-bytes}
 use Rattle.recording.specs.declared.Noted.{Noted}
 use Rattle.recording.specs.declared.Recorded.{Recorded}
 use Rattle.recording.specs.declared.Why.{Why}
-use Rattle.recording.specs.Recordings.{starts, longest, outside, wrongCount, cutsOff, timeOf, timed, deviceFor, agrees, answerTo, faulty, recordedOf, bytesRecorded, whyAs, whySeen, whyOf}
+use Rattle.recording.specs.Recordings.{starts, longest, outside, wrongCount, cutsOff, timeOf, timed, deviceFor, agrees, answerTo, faulty, recordedOf, bytesRecorded, whyAs, whySeen, refusalOf, whyOf}
 use Rattle.recording.specs.Inner.{timeBy, seenJudged}
 use Rattle.recording.proofs.Longest.{judge-longest}
 use Rattle.recording.proofs.Seeing.{seen-early}
@@ -82,13 +82,9 @@ module _ (d : Device) (s : State) (r : Noted) (bytes : List ℕ) where
   unfolding faulty
   cut-fault e f = simp (e, f)
 
-  pub count-why : wrongCount (d .part) s r ≡ true → whyAs 1 (r .busy) ≡ whyOf d s r bytes
+  pub cut-why : cutsOff (d .part) s (r .cycle) ≡ true → whyAs 2 0 ≡ whyOf d s r bytes
   unfolding whyOf
-  count-why e = simp e
-
-  pub cut-why : wrongCount (d .part) s r ≡ false → cutsOff (d .part) s (r .cycle) ≡ true → whyAs 2 0 ≡ whyOf d s r bytes
-  unfolding whyOf
-  cut-why e f = simp (e, f)
+  cut-why f = simp f
 
   module _ (e : wrongCount (d .part) s r ≡ false) (f : cutsOff (d .part) s (r .cycle) ≡ false) (g : Device) (same : g ≡ deviceFor d s r)
       (m : ℕ) (lies : m ≡ lentIn (d .part .word) (length bytes)) (n : ℕ) (j : n ≡ judgeOf g s (r .cycle) m 0) where
@@ -107,13 +103,24 @@ module _ (d : Device) (s : State) (r : Noted) (bytes : List ℕ) where
     unfolding faulty answerTo
     answer-fault z v p b q = ap not (q ∙ ap (λ (x : Seen). agrees x (r .heard)) (there z v p)) ∙ sym (simp (e, f))
 
-    pub refused-why : (n ≡ 0 → ⊥) → whyAs 3 n ≡ whyOf d s r bytes
-    unfolding whyOf answerTo
-    refused-why z = simp (e, f, stopped (deviceFor d s r) s (r .cycle) bytes n judged z)
+  module _ (f : cutsOff (d .part) s (r .cycle) ≡ false) (g : Device) (same : g ≡ deviceFor d s r)
+      (m : ℕ) (lies : m ≡ lentIn (d .part .word) (length bytes)) (n : ℕ) (j : n ≡ judgeOf g s (r .cycle) m 0) where
+    refusal : n ≡ refusalOf d s r bytes
+    refusal = j ∙ ap₂ (λ (h : Device) (k : ℕ). judgeOf h s (r .cycle) k 0) same lies
 
-    pub answer-why : n ≡ 0 → (v : Seen) → v ≡ seenJudged g s (r .cycle) (units (g .part .word) bytes) → (w : Why) → w ≡ whySeen v → w ≡ whyOf d s r bytes
+    pub refused-why : (n ≡ 0 → ⊥) → whyAs 3 n ≡ whyOf d s r bytes
+    unfolding whyOf
+    refused-why z = ap (whyAs 3) refusal ∙ simp (f, ne-eqb (refusalOf d s r bytes) 0 (λ (q : refusalOf d s r bytes ≡ 0). z (refusal ∙ q)))
+
+    pub count-why : n ≡ 0 → wrongCount (d .part) s r ≡ true → whyAs 1 (r .busy) ≡ whyOf d s r bytes
+    unfolding whyOf
+    count-why z e = simp (f, eq-eqb (refusalOf d s r bytes) 0 (sym refusal ∙ z), e)
+
+    pub answer-why : n ≡ 0 → wrongCount (d .part) s r ≡ false → (v : Seen) → v ≡ seenJudged g s (r .cycle) (units (g .part .word) bytes) → (w : Why) → w ≡ whySeen v → w ≡ whyOf d s r bytes
     unfolding whyOf answerTo
-    answer-why z v p w q = q ∙ ap whySeen (there z v p) ∙ sym (simp (e, f))
+    answer-why z e v p w q =
+        q ∙ ap whySeen (p ∙ ap (λ (h : Device). seenJudged h s (r .cycle) (units (h .part .word) bytes)) same ∙ passed (deviceFor d s r) s (r .cycle) bytes n refusal z f)
+        ∙ sym (simp (f, eq-eqb (refusalOf d s r bytes) 0 (sym refusal ∙ z), e))
 
   -- at fault nothing changes
   pub fault-state : faulty d s r bytes ≡ true → record { fault = true; state = s } ≡ recordedOf d s r bytes

@@ -2,9 +2,10 @@
 use mathlib.Core.Bool.{Bool, true, false, not, _&&_, _||_}
 use mathlib.Core.List.{List, []}
 use Prim.Native.Nat.{ℕ}
+use lib.ListN.{length}
 use lib.Dec.{eqb, ltb}
 use Rattle.common.specs.Choice.{if_then_else_}
-use Rattle.units.specs.Units.{lent}
+use Rattle.units.specs.Units.{lent, lentIn}
 use Rattle.device.specs.declared.Part.{Part}
 use Rattle.device.specs.declared.Device.{Device}
 use Rattle.model_types.specs.declared.Cycle.{Cycle}
@@ -13,6 +14,7 @@ use Rattle.model_types.specs.declared.Effect.the-variants.{Nothing, Program, Er
 use Rattle.model_types.specs.declared.State.{State}
 use Rattle.model_levels.specs.Levels.{rpLow, vppLow}
 use Rattle.model_types.specs.Phases.{isPending}
+use Rattle.model_judge.specs.Judging.{judgeOf}
 use Rattle.model.specs.declared.Seen.{Seen}
 use Rattle.model.specs.declared.Seen.the-variants.{NoData, Data, Refused}
 use Rattle.model.specs.declared.Answer.{Answer}
@@ -105,9 +107,15 @@ whySeen NoData = whyAs 4 0
 whySeen (Data v) = whyAs 5 v
 whySeen (Refused m) = whyAs 3 m
 
--- 1 the count is needed and wrong, with the count; 2 an operation is cut; else what the rules answer
+-- the first of refusals 1 to 6 that applies to a record's cycle, or 0
+abbrev pub refusalOf : Device → State → Noted → List ℕ → ℕ
+refusalOf d s r bytes = judgeOf (deviceFor d s r) s (r .cycle) (lentIn (d .part .word) (length bytes)) 0
+
+-- 2 an operation is cut; 3 the cycle is refused by one of 1 to 6, with the number: a cycle that is refused starts nothing, so its count is
+-- not looked at; 1 the count is needed and wrong, with the count; else what the rules answer
 unfoldable pub whyOf : Device → State → Noted → List ℕ → Why
 whyOf d s r bytes =
-    if wrongCount (d .part) s r then whyAs 1 (r .busy)
-    else if cutsOff (d .part) s (r .cycle) then whyAs 2 0
+    if cutsOff (d .part) s (r .cycle) then whyAs 2 0
+    else if not (eqb (refusalOf d s r bytes) 0) then whyAs 3 (refusalOf d s r bytes)
+    else if wrongCount (d .part) s r then whyAs 1 (r .busy)
     else whySeen (answerTo d s r bytes .seen)

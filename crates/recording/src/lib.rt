@@ -277,12 +277,6 @@ pub fn reason(d: Device, s: State, r: Noted, array: &[u8]) -> Why
     let part = d.part;
     let word = part.word;
     let c = r.cycle;
-    if wrong_count(part, s, r) {
-        return Why {
-            kind: 1,
-            value: r.busy,
-        };
-    }
     if cuts_off(part, s, c) {
         return Why { kind: 2, value: 0 };
     }
@@ -292,6 +286,12 @@ pub fn reason(d: Device, s: State, r: Noted, array: &[u8]) -> Why
         return Why {
             kind: 3,
             value: n as u32,
+        };
+    }
+    if wrong_count(part, s, r) {
+        return Why {
+            kind: 1,
+            value: r.busy,
         };
     }
     let seen = see_judged(e, s, c, array);
