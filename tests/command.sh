@@ -959,6 +959,8 @@ spoilt 'a cut by VPP' 1 'line 4 is at fault: an operation is cut' 4 'R 1 0 05000
 spoilt 'a cut by RP#' 1 'line 4 is at fault: an operation is cut' 4 'R 0 0 12000 3A00 00 N -- -----'
 spoilt 'no count at a confirm' 1 'line 2 is at fault: the count 0 is not 1 to 65535' 2 'W 1 0 12000 3A00 D0 N -- -----'
 spoilt 'a count of 0' 1 'line 2 is at fault: the count 0 is not 1 to 65535' 2 'W 1 0 12000 3A00 D0 N -- 00000'
+spoilt 'no count at a confirm that is refused' 1 'line 2 is at fault: seen N --, the rules refuse the cycle by number 4' 2 \
+    'W 1 0 07000 3A00 D0 N -- -----'
 spoilt 'a count of 65,536' 1 'line 9 is at fault: the count 65536 is not 1 to 65535' 9 'W 1 0 12000 3A00 5A N -- 65536'
 spoilt 'a count that is too small' 1 'line 6 is at fault: seen D 00, the rules give D 80' 2 'W 1 0 12000 3A00 D0 N -- 00004'
 spoilt 'a count that is too large' 1 'line 7 is at fault: seen D 80, the rules give D 00' 2 'W 1 0 12000 3A00 D0 N -- 65535'
