@@ -1,4 +1,6 @@
 // What a cycle answers, as numbers: by the state that it leaves, and by the typed way.
+#![tactic(auto)]
+
 ghost use Rattle.std.specs.Prelude.{◌≡◌};
 ghost use Rattle.std.specs.Int.Bits.{bit_and};
 ghost use Rattle.c_cycle.specs.Answers.{cycled, array_cycled};

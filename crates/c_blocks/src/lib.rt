@@ -1,5 +1,7 @@
 // Where a flash block of a part lies, in bytes, from a table by the part's number and the block: two lookups for the compiler, where a
 // part's description takes additions. It is proved to be what the descriptions give.
+#![tactic(auto)]
+
 ghost use Rattle.std.specs.Prelude.{◌≡◌};
 ghost use Rattle.c_blocks.specs.Table.{four_at, five_at, seven_at, block_at};
 

@@ -1,12 +1,14 @@
 // Device, state, cycle and answer as structs of numbers, as a C program hands them over and gets them back, each way. The conversions are
 // total:
 // numbers that stand for nothing become something that is refused in its place.
+#![tactic(auto)]
+
 pub mod counts;
 pub mod states;
 
 // A device: its number, whether it is in word mode (1, else 0), and the cycles that a program, an erase and a suspend take.
 #[repr(C)]
-#[derive(Drop)]
+#[derive(Clone, Copy)]
 pub struct DeviceNumbers {
     pub number: u8,
     pub word: u8,
@@ -17,7 +19,7 @@ pub struct DeviceNumbers {
 
 // Erases begun, by block; there is room for seven.
 #[repr(C)]
-#[derive(Drop)]
+#[derive(Clone, Copy)]
 pub struct WearNumbers {
     pub block0: u32,
     pub block1: u32,
@@ -30,7 +32,7 @@ pub struct WearNumbers {
 
 // A device's state.
 #[repr(C)]
-#[derive(Drop)]
+#[derive(Clone, Copy)]
 pub struct StateNumbers {
     pub mode: u8,
     pub status: u8,
@@ -44,7 +46,7 @@ pub struct StateNumbers {
 
 // A bus cycle.
 #[repr(C)]
-#[derive(Drop)]
+#[derive(Clone, Copy)]
 pub struct BusNumbers {
     pub kind: u8,
     pub rp: u8,
@@ -57,7 +59,7 @@ pub struct BusNumbers {
 
 // What a cycle answers beside the state that it leaves.
 #[repr(C)]
-#[derive(Drop)]
+#[derive(Clone, Copy)]
 pub struct AnswerNumbers {
     pub seen: u8,
     pub value: u16,

@@ -1,5 +1,7 @@
 // What a C program gets of the library: numbers, slices and structs of numbers at the border, the typed functions behind
 // it. include/torfbarke.h declares the same structs and functions.
+#![tactic(auto)]
+
 ghost use Rattle.std.specs.Prelude.{◌≡◌, take};
 ghost use Rattle.model_states.specs.States.{fresh_state};
 ghost use Rattle.file_check.specs.Check.{check_of};

@@ -1,5 +1,7 @@
 // A load whose erase is interrupted for readings, for a C program, in an archive of its own: its start, its step and its run, and the
 // records of it as structs of numbers. include/torfbarke.h declares the same structs and functions.
+#![tactic(auto)]
+
 pub mod holds;
 
 ghost use Rattle.std.specs.Prelude.{◌≡◌};
@@ -13,7 +15,7 @@ use loader_held_steps::HeldResponse;
 
 // Where an interruption stands.
 #[repr(C)]
-#[derive(Drop)]
+#[derive(Clone, Copy)]
 pub struct HoldNumbers {
     pub step: u8,
     pub suspended: u8,
@@ -24,7 +26,7 @@ pub struct HoldNumbers {
 
 // The loader's record beside it.
 #[repr(C)]
-#[derive(Drop)]
+#[derive(Clone, Copy)]
 pub struct HeldNumbers {
     pub loader: LoaderNumbers,
     pub hold: HoldNumbers,
@@ -32,7 +34,7 @@ pub struct HeldNumbers {
 
 // What a start or a step says, beside the records.
 #[repr(C)]
-#[derive(Drop)]
+#[derive(Clone, Copy)]
 pub struct HeldResponseNumbers {
     pub turn: SayingNumbers,
     pub held: HeldNumbers,

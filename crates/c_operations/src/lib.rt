@@ -1,6 +1,8 @@
 // A bus cycle while an operation is awaited, running or suspended, or is cut, from numbers to numbers. What a sufficient test knows is
 // answered from the numbers; every other cycle goes the typed way, and is judged there alone. Mode, status, phase and suspend are asked as
 // one number (`key_of`): 4 times a phase and 2 is that phase with SR.7 set, and 3 with SR.6 too.
+#![tactic(auto)]
+
 ghost use Rattle.std.specs.Prelude.{◌≡◌, true, false, not, List, ℕ, ◌≤◌, ◌<◌, length, eqb};
 ghost use Rattle.units.specs.Units.{units, spare};
 ghost use Rattle.device.specs.Parts.{size_of, block_of};

@@ -1,5 +1,7 @@
 // A fair bus cycle of a device at rest, from numbers to numbers. The test of a fair cycle is sufficient and no more: what fails it is
 // judged by the rules, and by them alone. The caller makes the choice itself (`tb_cycle`): the answer is then made where it goes.
+#![tactic(auto)]
+
 ghost use Rattle.std.specs.Prelude.{◌≡◌, ◌<◌, ◌%◌, leb};
 ghost use Rattle.c_ordinary.specs.Ordinary.{bytes_for, units_for, level_in, timed_in, fair_in, key_of, resting_in, rested_as};
 ghost use Rattle.c_ordinary.specs.Ordinary.{sets_as, unset_as, seldom_of, commanded_of};
@@ -7,7 +9,7 @@ ghost use Rattle.c_ordinary.specs.Ordinary.{sets_as, unset_as, seldom_of, comman
 use c_cycle::{AnswerNumbers, BusNumbers, DeviceNumbers, StateNumbers};
 
 // What a command sets, and whether it is one of those that are known here.
-#[derive(Drop)]
+#[derive(Clone, Copy)]
 pub struct Commanded {
     pub known: bool,
     pub mode: u8,

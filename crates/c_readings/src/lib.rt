@@ -1,4 +1,6 @@
 // What a reading answers, as a struct of numbers for a C program.
+#![tactic(auto)]
+
 ghost use Rattle.std.specs.Prelude.{◌≡◌, pos};
 ghost use Rattle.std.specs.Float.Ieee.{of_int};
 ghost use Rattle.std.specs.Float.{binary64};
@@ -8,7 +10,7 @@ use reading::{Reading, ReadingAnswer};
 
 // What it is (0 a temperature, 1 below the table, 2 above it, 3 refused), the number of the refusal, and tenths of a degree.
 #[repr(C)]
-#[derive(Drop)]
+#[derive(Clone, Copy)]
 pub struct ReadingNumbers {
     pub answer: u8,
     pub number: u8,

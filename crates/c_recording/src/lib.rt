@@ -1,6 +1,8 @@
 // A recording checked for a C program, in an archive of its own: a lent list of structs of numbers is walked once, each copied out. What a
 // sufficient test knows, and is not at fault, is answered from the numbers; every other one is read as a record and handed to the step of
 // recordings, and is judged there alone. include/torfbarke.h declares the same structs and the function.
+#![tactic(auto)]
+
 pub mod records;
 
 ghost use Rattle.std.specs.Prelude.{◌≡◌, true, false, List, ℕ, ◌+◌, ◌*◌, ◌/◌, ◌%◌, ◌≤◌, ◌<◌, length};
@@ -19,7 +21,7 @@ use recording_walk::Walk;
 
 // A record: the cycle, whether data were seen, these data, and the busy count.
 #[repr(C)]
-#[derive(Drop)]
+#[derive(Clone, Copy)]
 pub struct RecordNumbers {
     pub bus: BusNumbers,
     pub seen: u8,
@@ -29,7 +31,7 @@ pub struct RecordNumbers {
 
 // What the check of a recording answers.
 #[repr(C)]
-#[derive(Drop)]
+#[derive(Clone, Copy)]
 pub struct CheckedNumbers {
     pub refusal: u8,
     pub accepted: u8,
@@ -39,7 +41,7 @@ pub struct CheckedNumbers {
 
 // A walk as numbers: its device and the units of the array, or none; of the state the first four numbers as one (`key_of`), the next three
 // as one (`rest_of`), and the counts of erases; the refusal or 0, whether the walk has stopped, and the records that passed.
-#[derive(Drop)]
+#[derive(Clone, Copy)]
 pub struct Going {
     pub device: DeviceNumbers,
     pub units: usize,
@@ -52,7 +54,7 @@ pub struct Going {
 }
 
 // What a record that is known here leaves, in the two numbers of a state.
-#[derive(Drop)]
+#[derive(Clone, Copy)]
 pub struct Moved {
     pub known: bool,
     pub key: u32,
@@ -60,7 +62,7 @@ pub struct Moved {
 }
 
 // Whether a record is at fault, and the state that it leaves.
-#[derive(Drop)]
+#[derive(Clone, Copy)]
 pub struct Stepped {
     pub fault: bool,
     pub key: u32,

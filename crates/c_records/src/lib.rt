@@ -1,5 +1,7 @@
 // The loader's record, what a start, a step, a run, a load, writer and reader say, as structs of numbers for a C program. The
 // conversions are total: numbers that stand for no record become a record that every step refuses.
+#![tactic(auto)]
+
 pub mod records;
 pub mod runs;
 pub mod sizes;
@@ -8,7 +10,7 @@ use c_cycle::{BusNumbers, StateNumbers};
 
 // The loader's record.
 #[repr(C)]
-#[derive(Drop)]
+#[derive(Clone, Copy)]
 pub struct LoaderNumbers {
     pub part: u8,
     pub word: u8,
@@ -26,7 +28,7 @@ pub struct LoaderNumbers {
 
 // What a start or a step says.
 #[repr(C)]
-#[derive(Drop)]
+#[derive(Clone, Copy)]
 pub struct SayingNumbers {
     pub turn: u8,
     pub number: u8,
@@ -36,7 +38,7 @@ pub struct SayingNumbers {
 
 // The same beside the record.
 #[repr(C)]
-#[derive(Drop)]
+#[derive(Clone, Copy)]
 pub struct ResponseNumbers {
     pub turn: SayingNumbers,
     pub loader: LoaderNumbers,
@@ -44,7 +46,7 @@ pub struct ResponseNumbers {
 
 // What a run or a load from a file returns.
 #[repr(C)]
-#[derive(Drop)]
+#[derive(Clone, Copy)]
 pub struct RanNumbers {
     pub count: u64,
     pub end: u8,
@@ -54,7 +56,7 @@ pub struct RanNumbers {
 
 // What writer and reader return.
 #[repr(C)]
-#[derive(Drop)]
+#[derive(Clone, Copy)]
 pub struct SizedNumbers {
     pub number: u8,
     pub length: usize,
@@ -62,7 +64,7 @@ pub struct SizedNumbers {
 
 // Where a flash block lies.
 #[repr(C)]
-#[derive(Drop)]
+#[derive(Clone, Copy)]
 pub struct BlockNumbers {
     pub first: usize,
     pub length: usize,

@@ -1,6 +1,8 @@
 // A loader's start and step on numbers. A stage that only passes on, a poll after which another follows, a read in the midst of a block and
 // the end of a program move the numbers on as they stand; every other step goes the typed way, and a refused start too. The test before
 // that is sufficient and no more: what fails it is judged by the rules, and by them alone.
+#![tactic(auto)]
+
 ghost use Rattle.std.specs.Prelude.{◌≡◌, true, false, List, ℕ, ◌+◌, ◌*◌, ◌%◌, ◌≤◌, ◌<◌, eqb, length, get_or, set};
 ghost use Rattle.common.specs.Choice.{if◌then◌else◌};
 ghost use Rattle.device.specs.declared.Part.{Part};
@@ -24,7 +26,7 @@ use loader_steps::front::{start, step};
 
 // Where a step leads, if that is known here: the record's stage, place and polls, and the cycle that is out by its kind, whether it is
 // about the unit at the place, and what it carries, the wanted unit or a command.
-#[derive(Drop)]
+#[derive(Clone, Copy)]
 struct Next {
     known: bool,
     stage: u8,

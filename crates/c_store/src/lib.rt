@@ -1,5 +1,7 @@
 // The store for a C program, in an archive of its own: a file found, read by, dropped and added, on plain numbers. include/torfbarke.h
 // declares the same functions.
+#![tactic(auto)]
+
 ghost use Rattle.std.specs.Prelude.{◌≡◌};
 ghost use Rattle.c_store.specs.Calls.{found_out, store_found, room_found, store_read, room_read, dropped, store_dropped, added, store_added};
 

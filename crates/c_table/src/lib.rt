@@ -1,5 +1,7 @@
 // The second engine for a C program, in an archive of its own: beside the first one the compiler would lay neither into its callers.
 // include/torfbarke.h declares it.
+#![tactic(auto)]
+
 ghost use Rattle.std.specs.Prelude.{◌≡◌};
 ghost use Rattle.c_cycle.specs.Answers.{cycled, array_cycled};
 

@@ -1,4 +1,6 @@
 // The report on the wear of many traces, as structs of numbers for a C program, each way. All numbers stand for a report.
+#![tactic(auto)]
+
 ghost use Rattle.std.specs.Prelude.{◌≡◌};
 ghost use Rattle.c_wear.specs.Reports.{tally_in, tally_out, report_in, report_out, reported_out};
 
@@ -6,7 +8,7 @@ use wear::{Report, Reported, Tally};
 
 // Of one block: the sum of its counts, the largest, the smallest and how many are over 100,000.
 #[repr(C)]
-#[derive(Drop)]
+#[derive(Clone, Copy)]
 pub struct TallyNumbers {
     pub total: u64,
     pub largest: u32,
@@ -16,7 +18,7 @@ pub struct TallyNumbers {
 
 // Of the traces so far.
 #[repr(C)]
-#[derive(Drop)]
+#[derive(Clone, Copy)]
 pub struct ReportNumbers {
     pub traces: u32,
     pub block0: TallyNumbers,
@@ -30,7 +32,7 @@ pub struct ReportNumbers {
 
 // A refusal, or 0, with the report.
 #[repr(C)]
-#[derive(Drop)]
+#[derive(Clone, Copy)]
 pub struct ReportedNumbers {
     pub number: u8,
     pub report: ReportNumbers,

@@ -1,5 +1,7 @@
 // For a C program, in an archive of its own: the words of a number, a knot's six bytes each way, and the version. include/torfbarke.h
 // declares the same struct and functions.
+#![tactic(auto)]
+
 mod knots;
 mod lines;
 
@@ -10,7 +12,7 @@ ghost use Rattle.c_words.specs.Words.{words_of, words_left};
 
 // A knot of a payload: its microvolts and tenths of a degree, and 1 where there is such a knot; else all 0.
 #[repr(C)]
-#[derive(Drop)]
+#[derive(Clone, Copy)]
 pub struct KnotNumbers {
     pub microvolts: i32,
     pub tenths: i16,

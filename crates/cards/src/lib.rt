@@ -1,1 +1,2 @@
 // The twelve bench cards. Nothing runs here: the table is in specs/, its proof in proofs/.
+#![tactic(auto)]

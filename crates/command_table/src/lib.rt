@@ -1,5 +1,7 @@
 // The command rules as a table: 256 bytes in seven states, each entry an action number. Made for reading; `model_commands` has the same
 // rules as tests. tests/command_table.py writes the table.
+#![tactic(auto)]
+
 ghost use Rattle.std.specs.Prelude.{◌≡◌, ◌<◌, ◌%◌};
 ghost use Rattle.model_commands.specs.Commands.{command_of, action_of};
 ghost use Rattle.command_table.specs.Actions.{row_of, for_large, action_for, entry_in, entry_at};

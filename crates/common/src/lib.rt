@@ -1,4 +1,6 @@
 // Leaf functions on slices of bytes, shared by every crate above. Each public one takes any input.
+#![tactic(auto)]
+
 ghost use Rattle.std.specs.Prelude.{◌≡◌, length, get_or, replicate};
 ghost use Prim.Native.Nat.{◌<◌};
 ghost use Rattle.common.specs.Lists.{copied};

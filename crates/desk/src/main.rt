@@ -1,6 +1,8 @@
 // The desk: the one program behind ./torfbarke. Its first argument is a word, and the word's own arguments follow it. Each word is one
 // function here: it reads arguments and files into arrays, calls a library, and writes. What is decided is decided there. A `.` on standard
 // error says that all was written.
+#![tactic(auto)]
+
 mod parts;
 mod recordings;
 mod tables;

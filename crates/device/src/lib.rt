@@ -1,4 +1,6 @@
 // The parts we load: size, blocks and identifier, each derived from one short description of a part.
+#![tactic(auto)]
+
 ghost use Rattle.std.specs.Prelude.{◌≡◌, ◌-◌};
 ghost use Rattle.device.specs.Parts.{four_blocks, more_blocks, row_of, in_words, shape_of, is_large, size_in, length_in, offset_in, holder_in};
 ghost use Rattle.device.specs.Parts.{mirrored, start_in, block_in, unknown_part, unknown_device, size_of, length_of, start_of, block_of};
@@ -7,14 +9,14 @@ ghost use Rattle.device.specs.Inner.{span_in, span_of};
 
 // What a loader knows of the flash: its number, 1 to 8, and whether it is in word mode. A unit is what one cycle carries: a byte,
 // or in word mode a word. Addresses and lengths of a part are in units.
-#[derive(Drop)]
+#[derive(Clone, Copy)]
 pub struct Part {
     pub number: u8,
     pub word: bool,
 }
 
 // A part with its busy times: the cycles that a program and an erase take (P and E), and those that a suspend takes (S).
-#[derive(Drop)]
+#[derive(Clone, Copy)]
 pub struct Device {
     pub part: Part,
     pub program: u16,
@@ -24,7 +26,7 @@ pub struct Device {
 
 // A part's description: block lengths outward from the boot block (0 where there is none), whether the boot block is at
 // the top, and the identifier code.
-#[derive(Drop)]
+#[derive(Clone, Copy)]
 pub struct Shape {
     pub l0: u32,
     pub l1: u32,
@@ -38,7 +40,7 @@ pub struct Shape {
 }
 
 // Where a block lies: its first address and its units; no units where there is no such block.
-#[derive(Drop)]
+#[derive(Clone, Copy)]
 pub struct Span {
     pub first: usize,
     pub length: usize,

@@ -1,5 +1,7 @@
 // Two engines behind one function: the rules tested one by one, or the table of `command_table`. The promise names no engine, since they
 // agree.
+#![tactic(auto)]
+
 ghost use Rattle.std.specs.Prelude.{◌≡◌};
 ghost use Rattle.units.specs.Units.{units, lent};
 ghost use Rattle.model.specs.Arrays.{answer_of, seen_told, cycle_told, bytes_after};

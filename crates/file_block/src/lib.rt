@@ -1,4 +1,6 @@
 // What is wrong with one block of a load file. Each public function takes any input.
+#![tactic(auto)]
+
 ghost use Rattle.std.specs.Prelude.{◌≡◌, ◌<◌, length};
 ghost use Rattle.file_block.specs.Block.{within, is_letter, used_of, letter_wrong, place_wrong, used_wrong, padding_wrong, unsound_number};
 

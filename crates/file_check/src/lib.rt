@@ -1,11 +1,13 @@
 // The check that seals a block, a block that is blank, and numbers of two bytes. Each function takes any input.
+#![tactic(auto)]
+
 ghost use Rattle.std.specs.Prelude.{◌≡◌, ◌+◌, ◌-◌, ◌*◌, ◌/◌, ◌%◌, ◌<◌, ◌≤◌, length, get_or, take};
 ghost use Rattle.file_check.specs.Check.{check_of, all_are, is_blank, check_number, pair};
 ghost use Rattle.file_check.specs.Inner.{Small, From, next_of, over_of};
 
 // The sums over bytes that stand four apart, four columns from the last byte on: what each column adds up to, and all that it added
 // up to, byte after byte, added up.
-#[derive(Drop)]
+#[derive(Clone, Copy)]
 struct Columns {
     s0: u32,
     s1: u32,

@@ -1,4 +1,6 @@
 // The load file: its definitions, the reader and its judgement alone. Each public function takes any input.
+#![tactic(auto)]
+
 ghost use Rattle.std.specs.Prelude.{◌≡◌, [], ◌+◌, ◌-◌, ◌*◌, ◌<◌, ◌≤◌, length, get_or, take, drop};
 ghost use Rattle.common.specs.Numbers.{given};
 ghost use Rattle.file_block.specs.Block.{used_of};
@@ -16,21 +18,21 @@ pub const FILE: usize = 512 * LIMIT;
 pub const PAYLOAD: usize = 505 * LIMIT;
 
 // The writer's answer: the bytes written, or the refusal.
-#[derive(Drop)]
+#[derive(Clone, Copy)]
 pub enum Written {
     Wrote(usize),
     Refused(u8),
 }
 
 // The judgement of a file: the bytes of its payload, or the refusal.
-#[derive(Drop)]
+#[derive(Clone, Copy)]
 pub enum Judged {
     Sound(usize),
     Refused(u8),
 }
 
 // The reader's answer: the bytes given back, or the refusal.
-#[derive(Drop)]
+#[derive(Clone, Copy)]
 pub enum ReadBack {
     Gave(usize),
     Refused(u8),

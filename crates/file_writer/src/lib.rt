@@ -1,4 +1,6 @@
 // The load file: the writer. It takes any input.
+#![tactic(auto)]
+
 ghost use Rattle.std.specs.Prelude.{◌≡◌, ◌++◌, ◌+◌, ◌*◌, ◌<◌, ◌≤◌, length, take, drop};
 ghost use Rattle.file_codec.specs.Layout.{head_of, sealed, block_written};
 ghost use Rattle.file_codec.specs.File.{limit, count_of, blocks_of, payload_wrong, writer_of};
@@ -74,7 +76,7 @@ fn payload_wrong(size: usize) -> bool
 }
 
 // Blocks counted, and the bytes that are left to count.
-#[derive(Drop)]
+#[derive(Clone, Copy)]
 struct Count {
     blocks: usize,
     left: usize,

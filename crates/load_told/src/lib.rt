@@ -1,5 +1,7 @@
 // What is said of a load into an image of a part: the words of a call become a device, a block and a letter, the load is run on the image,
 // and its end is told. The public function takes any input.
+#![tactic(auto)]
+
 ghost use Rattle.std.specs.Prelude.{◌≡◌, ◌++◌, ◌-◌, eqb, drop};
 ghost use Rattle.model_types.specs.Counts.{count_of};
 ghost use Rattle.text.specs.Writing.{laid_at, behind, Used};
@@ -13,7 +15,7 @@ use loader_run::{Job, Ran};
 use model_types::{Pins, Wear};
 
 // What a call gives back: the bytes of its line in front of out, and whether the load ended well.
-#[derive(Drop)]
+#[derive(Clone, Copy)]
 pub struct Said {
     pub used: usize,
     pub loaded: bool,

@@ -1,5 +1,7 @@
 // The loader's record, what each stage is, and what a status says. A cycle is out at each stage; `loader_steps` gives it and takes the
 // byte, `loader_moves` has where that takes the record.
+#![tactic(auto)]
+
 pub mod stages;
 pub mod statuses;
 
@@ -7,7 +9,7 @@ use device::Part;
 use model_types::{Cycle, Kind, Pins};
 
 // Which cycle is out. `Ended` holds the number of the end: 0 for well.
-#[derive(Drop)]
+#[derive(Clone, Copy)]
 pub enum Stage {
     Clearing,
     Opening,
@@ -24,7 +26,7 @@ pub enum Stage {
 }
 
 // What is asked of the loader: a load, with (true) or without the verify after it, or a verify alone.
-#[derive(Drop)]
+#[derive(Clone, Copy)]
 pub enum Work {
     Load(bool),
     Verify,
@@ -33,7 +35,7 @@ pub enum Work {
 // What a stage is. Whether it is the end of a load, and by which number (before the end there is none, and 255 stands for that). The
 // cycle that is out: its kind; whether it goes to the unit at the record's place or to the block's first address; and whether it
 // carries that place's wanted unit or `command`.
-#[derive(Drop)]
+#[derive(Clone, Copy)]
 pub struct StageIs {
     pub ended: bool,
     pub end: u8,
@@ -46,7 +48,7 @@ pub struct StageIs {
 // The loader's record: the part, the block and the levels it works with, the cycle that is out, the place in the block, counted in
 // units, the polls of the operation that is waited for, whether the verify follows the load, and, where it ended by 25, whether the
 // byte that differs is the high one of its word.
-#[derive(Drop)]
+#[derive(Clone, Copy)]
 pub struct Loader {
     pub part: Part,
     pub pins: Pins,
@@ -59,7 +61,7 @@ pub struct Loader {
 }
 
 // What a step answers: the next cycle, the end with its number and, for 25, the array address of the byte that differs, or a refusal.
-#[derive(Drop)]
+#[derive(Clone, Copy)]
 pub enum Saying {
     Out(Cycle),
     Over(u8, u32),
@@ -67,7 +69,7 @@ pub enum Saying {
 }
 
 // The answer beside the next record.
-#[derive(Drop)]
+#[derive(Clone, Copy)]
 pub struct Response {
     pub saying: Saying,
     pub loader: Loader,

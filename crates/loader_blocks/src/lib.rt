@@ -1,5 +1,7 @@
 // What the cycles of a load and of a verify do to a block and to scratch, stage by stage, on lent bytes of either width. `held` is the
 // block inside the array. Each stage is one walk, and gives the cycles of its operations: an operation's polls are counted, not made.
+#![tactic(auto)]
+
 ghost use Rattle.std.specs.Prelude.{◌≡◌, true, false, ◌+◌, ◌<◌, ◌≤◌, length, eqb};
 ghost use Rattle.std.specs.Int.Bits.{bit_and, bit_xor};
 ghost use Rattle.common.specs.Choice.{if◌then◌else◌};
@@ -12,14 +14,14 @@ ghost use Rattle.loader_blocks.specs.Blocks.{block_found, block_read, block_met,
 use units::WordAddress;
 
 // The operations of a load: the cycles that they take, and whether an erase is among them.
-#[derive(Drop)]
+#[derive(Clone, Copy)]
 pub struct Done {
     pub cycles: u64,
     pub erased: bool,
 }
 
 // A block looked at: some unit differs from what is wanted; some bit must rise.
-#[derive(Drop)]
+#[derive(Clone, Copy)]
 pub struct Found {
     pub differs: bool,
     pub rises: bool,

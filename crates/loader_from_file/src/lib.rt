@@ -1,5 +1,7 @@
 // A load and a verify from a file: the file is judged for the letter asked, and only then the flash block is loaded with it, or
 // verified against it.
+#![tactic(auto)]
+
 ghost use Rattle.std.specs.Prelude.{◌≡◌, ◌≤◌, length};
 ghost use Rattle.loader_from_file.specs.Loads.{file_number, wanted_by, load_number, load_left};
 

@@ -1,5 +1,7 @@
 // A load from a file whose erase is interrupted for readings: the file is judged for the letter asked, then the addresses and the room,
 // and only then the flash block is loaded with it.
+#![tactic(auto)]
+
 ghost use Rattle.std.specs.Prelude.{◌≡◌, ◌≤◌, length};
 ghost use Rattle.loader_from_file.specs.Loads.{wanted_of};
 ghost use Rattle.loader_held_file.specs.HeldLoads.{held_load_number, held_file_left};

@@ -1,4 +1,6 @@
 // The lists that a load with interruptions is lent, and their tests.
+#![tactic(auto)]
+
 ghost use Rattle.std.specs.Prelude.{◌≡◌, ◌&&◌, ◌||◌, ◌+◌, ltb, leb};
 ghost use Rattle.device.specs.Parts.{start_of, length_of};
 ghost use Rattle.loader_held_lists.specs.Listings.{some_of, past_array, in_loaded, short_room, room_number, held_number};

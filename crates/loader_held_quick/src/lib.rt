@@ -1,6 +1,8 @@
 // A load whose erase is interrupted for readings, stage by stage: the load without interruptions, and what they add to it. The promise is
 // that of `loader_held_run`, where loader and model are stepped against each other cycle by cycle. The load is made first and says whether
 // a bit had to rise; what interruptions read lies in other blocks, which it leaves alone.
+#![tactic(auto)]
+
 ghost use Rattle.std.specs.Prelude.{◌≡◌, ◌+◌, ◌≤◌, ◌<◌, length, get_or, eqb, ltb};
 ghost use Rattle.common.specs.Choice.{if◌then◌else◌};
 ghost use Rattle.model_types.specs.declared.Mode.TheVariants.{Array};
@@ -24,7 +26,7 @@ use loader_run::{Job, Ran};
 use model_types::{Mode, State};
 
 // What the interruptions of a load come to: the cycles that they add, and whether one stands in the place of the erase's last poll.
-#[derive(Drop)]
+#[derive(Clone, Copy)]
 struct Extra {
     cycles: u64,
     last: bool,

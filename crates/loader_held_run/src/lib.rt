@@ -1,4 +1,6 @@
 // A load whose erase is interrupted for readings, run against the model.
+#![tactic(auto)]
+
 ghost use Rattle.std.specs.Prelude.{◌≡◌, not, ◌≤◌, length};
 ghost use Rattle.units.specs.Units.{units, spare};
 ghost use Rattle.model_judge.specs.Judging.{judge_of};
@@ -22,7 +24,7 @@ use model::Seen;
 use model_types::State;
 
 // The loader's record, that of an interruption and the device's state, between two cycles.
-#[derive(Drop)]
+#[derive(Clone, Copy)]
 pub struct Holding {
     pub loader: Loader,
     pub hold: Hold,

@@ -1,4 +1,6 @@
 // A load with interruptions a step at a time: its start, its step, and their tests.
+#![tactic(auto)]
+
 ghost use Rattle.std.specs.Prelude.{◌≡◌, length};
 ghost use Rattle.units.specs.Units.{units, spare, lent};
 ghost use Rattle.loader_steps.specs.Front.{bad_record, saying_told};
@@ -18,7 +20,7 @@ use loader_steps::front::{end_address, no_block, record_at, setup_number};
 use model_types::Pins;
 
 // The answer beside the next records.
-#[derive(Drop)]
+#[derive(Clone, Copy)]
 pub struct HeldResponse {
     pub saying: Saying,
     pub pair: Pair,

@@ -1,4 +1,6 @@
 // The loader's moves: the record after a read's data.
+#![tactic(auto)]
+
 ghost use Rattle.std.specs.Prelude.{◌≡◌, ◌-◌};
 ghost use Rattle.units.specs.Units.{units};
 ghost use Rattle.loader_moves.specs.Moves.{moved_to, ended_by, ended_apart, loaded_stage, onward, after_reads, after_read};

@@ -1,6 +1,8 @@
 // A load of one block, a verify of one block, and both one after the other, against the model, stage by stage: each stage does to the block
 // and to scratch what its cycles do, and adds the cycles that it stands for. The promise is that of `loader_run`, where loader and model
 // are stepped against each other cycle by cycle.
+#![tactic(auto)]
+
 ghost use Rattle.std.specs.Prelude.{◌≡◌, true, false, ◌≤◌, ◌+◌, length};
 ghost use Rattle.common.specs.Lists.{overlaid, overwritten};
 ghost use Rattle.device.specs.Parts.{start_of};
@@ -24,7 +26,7 @@ use model_types::counts::wear_out;
 use model_types::{Mode, Pins, State};
 
 // What a job came to: what is returned, and whether a bit of its block had to rise.
-#[derive(Drop)]
+#[derive(Clone, Copy)]
 pub struct Made {
     pub ran: Ran,
     pub rises: bool,

@@ -1,4 +1,6 @@
 // The loader run against the model: the cycles are made one after the other until the load ends, and counted.
+#![tactic(auto)]
+
 ghost use Rattle.std.specs.Prelude.{◌≡◌, not, length, eqb};
 ghost use Rattle.device.specs.Parts.{size_of};
 ghost use Rattle.model_judge.specs.Judging.{judge_of};
@@ -24,7 +26,7 @@ use model_types::{Phase, Pins, State};
 
 // What a run returns: the cycles made, the number of the end (0 well), for 25 the array address of the byte that differs, and the device's
 // state.
-#[derive(Drop)]
+#[derive(Clone, Copy)]
 pub struct Ran {
     pub count: u64,
     pub end: u8,
@@ -33,7 +35,7 @@ pub struct Ran {
 }
 
 // What is run: a device in a state, the levels on it, a block, and what is done to it.
-#[derive(Drop)]
+#[derive(Clone, Copy)]
 pub struct Job {
     pub device: Device,
     pub state: State,
@@ -43,7 +45,7 @@ pub struct Job {
 }
 
 // The loader's record and the device's state, between two cycles.
-#[derive(Drop)]
+#[derive(Clone, Copy)]
 pub struct Held {
     pub loader: Loader,
     pub state: State,

@@ -1,4 +1,6 @@
 // A read's data taken: what they do to scratch, and the record after them, which reads the new scratch.
+#![tactic(auto)]
+
 ghost use Rattle.std.specs.Prelude.{◌≡◌, set};
 ghost use Rattle.units.specs.Units.{units, spare, carried};
 ghost use Rattle.loader_moves.specs.Moves.{after_read, erase_polled, program_polled, verify_more, next_of};

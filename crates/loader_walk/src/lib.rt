@@ -1,4 +1,6 @@
 // Walks over what is wanted and what the block held, unit by unit.
+#![tactic(auto)]
+
 ghost use Rattle.std.specs.Prelude.{◌≡◌, length};
 ghost use Rattle.units.specs.Units.{units};
 ghost use Rattle.loader_walk.specs.Walks.{must_rise, rises_in, diff_from};

@@ -1,5 +1,7 @@
 // The bench model: one bus cycle at a time on a lent array. The rules are in `model_rules`; here they are applied to the array's
 // units, which `units` finds in the lent bytes.
+#![tactic(auto)]
+
 ghost use Rattle.std.specs.Prelude.{◌≡◌, ◌<◌, ◌≤◌, length, get_or, set};
 ghost use Rattle.std.specs.Int.Bits.{bit_and, bit_or};
 ghost use Rattle.units.specs.Units.{units, spare, lent};
@@ -14,7 +16,7 @@ use model_types::blank::ones;
 use model_types::{Cycle, Effect, Reply, State};
 
 // What the host sees of a cycle: no data, a byte or a word, or a refusal by its number.
-#[derive(Drop)]
+#[derive(Clone, Copy)]
 pub enum Seen {
     NoData,
     Data(u16),
@@ -22,7 +24,7 @@ pub enum Seen {
 }
 
 // The answer to a cycle beside the state that it leaves.
-#[derive(Drop)]
+#[derive(Clone, Copy)]
 pub struct Answer {
     pub seen: Seen,
     pub state: State,

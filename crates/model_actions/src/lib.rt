@@ -1,4 +1,6 @@
 // What comes of a write: what an action makes of the state.
+#![tactic(auto)]
+
 ghost use Rattle.std.specs.Prelude.{◌≡◌};
 ghost use Rattle.model_types.specs.Status.{SR4};
 ghost use Rattle.model_types.specs.declared.Phase.TheVariants.{Programming};

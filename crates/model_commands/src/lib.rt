@@ -1,4 +1,6 @@
 // What a write asks for.
+#![tactic(auto)]
+
 ghost use Rattle.std.specs.Prelude.{◌≡◌};
 ghost use Rattle.model_commands.specs.Commands.{command_of, asks_program, first_write, after_erase, while_erasing};
 ghost use Rattle.model_commands.specs.Commands.{while_suspending, while_suspended, action_of, is_refuse};

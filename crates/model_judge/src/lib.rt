@@ -1,4 +1,6 @@
 // Refusals 1 to 6 of a bus cycle, on values alone.
+#![tactic(auto)]
+
 ghost use Rattle.std.specs.Prelude.{◌≡◌, not, ◌||◌, eqb};
 ghost use Rattle.model_levels.specs.Levels.{rp_low, vpp_low};
 ghost use Rattle.device.specs.Parts.{size_of};

@@ -1,4 +1,6 @@
 // Pin levels and supply bands.
+#![tactic(auto)]
+
 ghost use Rattle.std.specs.Prelude.{◌≡◌};
 ghost use Rattle.model_levels.specs.Levels.{rp_low, vpp_low, at_twelve, at_five, vpp_high, bad_wp, bad_pins, most_oe, bad_oe, bad_levels};
 ghost use Rattle.model_levels.specs.Levels.{unlocked, locked};

@@ -1,4 +1,6 @@
 // Steps 1 to 3 of a cycle: what becomes of an operation before the read or write.
+#![tactic(auto)]
+
 ghost use Rattle.std.specs.Prelude.{◌≡◌, ◌&&◌};
 ghost use Rattle.model_operation.specs.Settling.{cut_of, finish_of, cut_bits, residue_for, reset_by, cut_by, counted_off, suspend_passed};
 ghost use Rattle.model_operation.specs.Settling.{passed_of, settle_of};

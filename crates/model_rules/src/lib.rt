@@ -1,4 +1,6 @@
 // One bus cycle on values alone, once it is judged: settle, respond. No slice comes near it.
+#![tactic(auto)]
+
 ghost use Rattle.std.specs.Prelude.{◌≡◌};
 ghost use Rattle.model_rules.specs.Cycles.{refused_by, skips_last, code_place, identifier_of};
 ghost use Rattle.model_rules.specs.Inner.{settled_by, in_suspended, decide_array, decide_identifier, decide_read, decide_write, decide_kind};

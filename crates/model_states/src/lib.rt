@@ -1,4 +1,6 @@
 // Device states: the status register, and what makes a state proper.
+#![tactic(auto)]
+
 ghost use Rattle.std.specs.Prelude.{◌≡◌};
 ghost use Rattle.model_states.specs.States.{most_left, is_array, is_status, is_identifier, improper, is_at_rest, in_phase};
 ghost use Rattle.model_states.specs.States.{fresh_state, reset_of};

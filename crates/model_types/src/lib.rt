@@ -1,11 +1,13 @@
 // The values that the rules of a bus cycle are about: cycles, levels, states, effects and replies.
+#![tactic(auto)]
+
 pub mod blank;
 pub mod counts;
 
 use device::{Device, Part};
 
 // The levels that a run keeps fixed: RP# (0 low, 1 high, 2 V_HH), WP# (0 low, 1 high) and VPP in millivolts.
-#[derive(Drop)]
+#[derive(Clone, Copy)]
 pub struct Pins {
     pub rp: u8,
     pub wp: u8,
@@ -13,7 +15,7 @@ pub struct Pins {
 }
 
 // The kinds of cycle.
-#[derive(Drop)]
+#[derive(Clone, Copy)]
 pub enum Kind {
     Read,
     Write,
@@ -22,7 +24,7 @@ pub enum Kind {
 
 // One bus cycle: its kind, the levels, OE# (0 normal, 1 V_HH), the address of a unit (a byte, or in word mode a word) and 16 bits
 // of data.
-#[derive(Drop)]
+#[derive(Clone, Copy)]
 pub struct Cycle {
     pub kind: Kind,
     pub pins: Pins,
@@ -32,7 +34,7 @@ pub struct Cycle {
 }
 
 // What a read gives.
-#[derive(Drop)]
+#[derive(Clone, Copy)]
 pub enum Mode {
     Array,
     Status,
@@ -40,7 +42,7 @@ pub enum Mode {
 }
 
 // What the device is about. A program's data stands in its phase, and so do the cycles that a suspend under way has to go.
-#[derive(Drop)]
+#[derive(Clone, Copy)]
 pub enum Phase {
     Free,
     EraseAwaited,
@@ -52,7 +54,7 @@ pub enum Phase {
 }
 
 // For each block, the erases begun; a count stops at 4,294,967,295.
-#[derive(Drop)]
+#[derive(Clone, Copy)]
 pub struct Wear {
     pub block0: u32,
     pub block1: u32,
@@ -64,7 +66,7 @@ pub struct Wear {
 }
 
 // The device's state: `left` cycles to go and the operation's `address`, both zero without an operation; the counts of erases.
-#[derive(Drop)]
+#[derive(Clone, Copy)]
 pub struct State {
     pub mode: Mode,
     pub status: u8,
@@ -75,7 +77,7 @@ pub struct State {
 }
 
 // What a cycle does to the array: a program or an erase ends, or is cut.
-#[derive(Drop)]
+#[derive(Clone, Copy)]
 pub enum Effect {
     Nothing,
     Program(u32, u16),
@@ -85,7 +87,7 @@ pub enum Effect {
 }
 
 // What a cycle answers: no data, data, the array's unit at an address, or a refusal.
-#[derive(Drop)]
+#[derive(Clone, Copy)]
 pub enum Reply {
     Quiet,
     Gives(u16),
@@ -94,7 +96,7 @@ pub enum Reply {
 }
 
 // What a write asks for.
-#[derive(Drop)]
+#[derive(Clone, Copy)]
 pub enum Action {
     ToArray,
     ToIdentifier,
@@ -112,14 +114,14 @@ pub enum Action {
 }
 
 // A state with what was done to the array on the way to it.
-#[derive(Drop)]
+#[derive(Clone, Copy)]
 pub struct Settled {
     pub state: State,
     pub effect: Effect,
 }
 
 // What is decided of a cycle: the reply, the next state, and what is done to the array.
-#[derive(Drop)]
+#[derive(Clone, Copy)]
 pub struct Decision {
     pub reply: Reply,
     pub state: State,

@@ -1,4 +1,6 @@
 // A probe's voltage becomes a temperature: by a payload, and straight from a file. Each public function takes any input.
+#![tactic(auto)]
+
 ghost use Rattle.std.specs.Prelude.{◌≡◌, ◌+◌, ◌-◌, ◌/◌, ◌≤◌, ◌<◌, length};
 ghost use Rattle.std.specs.Int.Signed.{lt_z};
 ghost use Rattle.std.specs.Float.Ieee.{of_int};
@@ -12,7 +14,7 @@ use file_codec::ReadBack;
 use reading_pair::Pair;
 
 // A temperature in tenths of a degree; or the voltage is below or above the table, with the end knot's temperature.
-#[derive(Drop)]
+#[derive(Clone, Copy)]
 pub enum Reading {
     Temperature(f64),
     Below(f64),
@@ -20,7 +22,7 @@ pub enum Reading {
 }
 
 // A reading, or the refusal.
-#[derive(Drop)]
+#[derive(Clone, Copy)]
 pub enum ReadingAnswer {
     Read(Reading),
     Refused(u8),

@@ -1,4 +1,6 @@
 // The line that a reading prints. The public function takes any input.
+#![tactic(auto)]
+
 ghost use Rattle.std.specs.Prelude.{◌≡◌, length};
 ghost use Rattle.text.specs.Writing.{laid_at, behind, Used, told_on};
 ghost use Rattle.file_codec.specs.File.{limit, in_room, left_in, reader_of};

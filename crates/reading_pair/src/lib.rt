@@ -1,9 +1,11 @@
 // A pair of knots, and the reading between them. Each function takes any input.
+#![tactic(auto)]
+
 ghost use Rattle.std.specs.Prelude.{◌≡◌};
 ghost use Rattle.reading_pair.specs.Pairs.{pair_of, interpolated};
 
 // Two knots: microvolts and tenths of a degree of the lower, then of the upper.
-#[derive(Drop)]
+#[derive(Clone, Copy)]
 pub struct Pair {
     pub x0: f64,
     pub t0: f64,

@@ -1,4 +1,6 @@
 // A knot and a temperature written as text, from a place on. Each public function takes any input.
+#![tactic(auto)]
+
 ghost use Rattle.std.specs.Prelude.{◌≡◌, pos, int_lt, unsigned_abs};
 ghost use Rattle.text.specs.Writing.{laid_at, behind};
 ghost use Rattle.reading_print.specs.Texts.{signed_text, knot_text, is_under, size_shown, whole_of, tenths_shown, temperature_text};

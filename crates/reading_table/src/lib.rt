@@ -1,4 +1,6 @@
 // The table of a payload: its knots, the judgement of the whole, and the search in it. Each public function takes any input.
+#![tactic(auto)]
+
 ghost use Rattle.std.specs.Prelude.{◌≡◌, not, ◌-◌, ◌/◌, ◌≤◌, ◌<◌, length};
 ghost use Rattle.std.specs.Int.Signed.{lt_z, le_z};
 ghost use Rattle.reading_table.specs.Table.{signed32, signed16, word32, word16, volts_of, tenths_of, in_range, good_at, rises_to};

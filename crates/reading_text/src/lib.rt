@@ -1,4 +1,6 @@
 // A number and a table read off text. Each public function takes any input.
+#![tactic(auto)]
+
 ghost use Rattle.std.specs.Prelude.{◌≡◌, ◌+◌, ◌*◌, ◌/◌, ◌<◌, length};
 ghost use Rattle.reading_text.specs.Numbers.{number_start, fed_digit, fed_minus, fed_other, fed, number_fed, is_number, is_negative};
 ghost use Rattle.reading_text.specs.Numbers.{value_of, number_told, number_values, values_in};
@@ -7,7 +9,7 @@ ghost use Rattle.reading_text.specs.Tables.{next_number, next_line, next_letter,
 ghost use Rattle.reading_text.specs.Tables.{table_read, table_scanned, table_told, scan_told};
 
 // A number as far as it is read: whether it has a minus and a digit, whether it is none, and its size.
-#[derive(Drop)]
+#[derive(Clone, Copy)]
 pub struct Number {
     pub minus: bool,
     pub some: bool,
@@ -16,7 +18,7 @@ pub struct Number {
 }
 
 // What a text says of a number.
-#[derive(Drop)]
+#[derive(Clone, Copy)]
 pub enum NumberRead {
     Whole(i32),
     NoNumber,
@@ -156,7 +158,7 @@ pub fn read_number(text: &[u8]) -> NumberRead
 
 // A table as far as it is read: the number that is being read, the microvolts of the line once they are, the knots so far, and
 // whether a line was wrong.
-#[derive(Drop)]
+#[derive(Clone, Copy)]
 pub struct Scan {
     pub number: Number,
     pub volts: Number,
@@ -166,7 +168,7 @@ pub struct Scan {
 }
 
 // What a text says of a table: its knots, or the first line that is none, counted from 1.
-#[derive(Drop)]
+#[derive(Clone, Copy)]
 pub enum TableRead {
     Knots(usize),
     WrongLine(usize),

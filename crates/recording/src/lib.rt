@@ -1,5 +1,7 @@
 // One record of a recording judged in a world: the cycle, the answer seen, and the busy count that a start took. A record at fault
 // changes nothing; any other is made by the model's own cycle.
+#![tactic(auto)]
+
 ghost use Rattle.std.specs.Prelude.{◌≡◌, true, false, ◌&&◌, []};
 ghost use Rattle.units.specs.Units.{units, spare};
 ghost use Rattle.model_types.specs.Kinds.{is_write};
@@ -17,14 +19,14 @@ use model_states::{SR3, is_pending};
 use model_types::{Cycle, Decision, Kind, Phase, State};
 
 // The answer that was seen: none, or data of up to 16 bits.
-#[derive(Drop)]
+#[derive(Clone, Copy)]
 pub enum Heard {
     Silence,
     Told(u16),
 }
 
 // A record: the cycle, the answer seen, and the busy count, wider than any that is allowed.
-#[derive(Drop)]
+#[derive(Clone, Copy)]
 pub struct Noted {
     pub cycle: Cycle,
     pub heard: Heard,
@@ -32,7 +34,7 @@ pub struct Noted {
 }
 
 // Whether a record is at fault, and the state that it leaves.
-#[derive(Drop)]
+#[derive(Clone, Copy)]
 pub struct Recorded {
     pub fault: bool,
     pub state: State,
@@ -40,7 +42,7 @@ pub struct Recorded {
 
 // Why a record is at fault: 1 its count is needed and wrong, and the count; 2 it cuts an operation; else what the rules answer, which is
 // not what was seen: 3 a refusal, and its number; 4 no data; 5 data, and the data.
-#[derive(Drop)]
+#[derive(Clone, Copy)]
 pub struct Why {
     pub kind: u8,
     pub value: u32,

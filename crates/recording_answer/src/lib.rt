@@ -1,4 +1,6 @@
 // What is said of a recording, in words. Each public function takes any input and writes from a place on, as far as out goes.
+#![tactic(auto)]
+
 ghost use Rattle.std.specs.Prelude.{◌≡◌, [], ◌≤◌};
 ghost use Rattle.recording.specs.declared.Heard.TheVariants.{Told};
 ghost use Rattle.text.specs.Digits.{spelled};

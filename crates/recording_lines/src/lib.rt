@@ -1,5 +1,7 @@
 // A line of a recording: a trace line's first 19 characters, the answer seen in four, the busy count in five digits or five dashes,
 // single spaces, newline.
+#![tactic(auto)]
+
 ghost use Rattle.std.specs.Prelude.{◌≡◌, true, false, length};
 ghost use Rattle.trace_lines.specs.Lines.{is_line, five_digits, two_hex};
 ghost use Rattle.text.specs.Digits.{digit_of};

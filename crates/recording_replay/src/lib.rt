@@ -1,5 +1,7 @@
 // A trace recorded on bench T: for each good line its line of a recording, with the answer that the model gives and, at a start, the busy
 // count that it takes; and what is to be said of such a recording.
+#![tactic(auto)]
+
 ghost use Rattle.std.specs.Prelude.{◌≡◌, ◌++◌, ◌*◌, ◌≤◌, length, drop};
 ghost use Rattle.common.specs.Lists.{copied};
 ghost use Rattle.model_types.specs.Phases.{is_free};
@@ -20,7 +22,7 @@ use model_types::{Cycle, Phase, State};
 
 // What is known after some lines: the state that they leave, the first line whose cycle is refused with the refusal's number, and the
 // first line that cuts an operation; 0 where there is none.
-#[derive(Drop)]
+#[derive(Clone, Copy)]
 pub struct Log {
     pub state: State,
     pub refused: u32,
@@ -31,7 +33,7 @@ pub struct Log {
 // How a recording went: the number of the first refusal and its line, or 37 where the room is too short; the first bad line; the first
 // line that cuts an operation; whether the end is idle; and how many bytes of a recording there are. A number or a line is 0 where there
 // is none.
-#[derive(Drop)]
+#[derive(Clone, Copy)]
 pub struct Made {
     pub number: u8,
     pub line: u32,

@@ -1,1 +1,2 @@
 // Nothing runs here: what is claimed of a trace recorded.
+#![tactic(auto)]

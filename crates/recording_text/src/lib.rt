@@ -1,4 +1,6 @@
 // A recording as a text, judged on bench T from a fresh device: lines of 31 bytes, each read and handed to the walk over the records.
+#![tactic(auto)]
+
 ghost use Rattle.std.specs.Prelude.{◌≡◌, ◌*◌, ◌≤◌, ◌<◌, take, drop};
 ghost use Rattle.recording_lines.specs.Records.{is_record, record_stated};
 ghost use Rattle.recording_walk.specs.Inner.{went_on, bytes_on, bytes_over};
@@ -8,7 +10,7 @@ ghost use Rattle.recording_text.specs.Inner.{come_of};
 use recording_walk::{Checked, Walk};
 
 // How a text was judged: its good lines, its first bad line or 0, and the check of the records that the good lines state.
-#[derive(Drop)]
+#[derive(Clone, Copy)]
 pub struct Judged {
     pub lines: usize,
     pub bad: usize,
@@ -16,7 +18,7 @@ pub struct Judged {
 }
 
 // Where the reading has come to: the walk, and the lines that it has read.
-#[derive(Drop)]
+#[derive(Clone, Copy)]
 struct Come {
     walk: Walk,
     lines: usize,

@@ -1,5 +1,7 @@
 // What is said of a recording as a text: it is judged, and the first thing that is wrong is told by its line, or that it is accepted. The
 // public function takes any input.
+#![tactic(auto)]
+
 ghost use Rattle.std.specs.Prelude.{◌≡◌, ◌+◌, ◌*◌, ◌≤◌, length};
 ghost use Rattle.text.specs.Writing.{laid_at, behind, Used};
 ghost use Rattle.recording_text.specs.Texts.{array_judged};

@@ -1,5 +1,7 @@
 // A recording checked: a lent list of records is walked once, each copied out and handed to the step of one record. The first fault
 // is held in the walk's state.
+#![tactic(auto)]
+
 ghost use Rattle.std.specs.Prelude.{◌≡◌, not, eqb};
 ghost use Rattle.units.specs.Units.{lent_in};
 ghost use Rattle.device.specs.Parts.{size_of};
@@ -13,7 +15,7 @@ use recording::{Noted, Recorded};
 
 // The check's answer: a refusal, or 0; whether the recording is accepted; the records that passed before the first at fault, and the state
 // that they leave, with its counts of erases.
-#[derive(Drop)]
+#[derive(Clone, Copy)]
 pub struct Checked {
     pub number: u8,
     pub accepted: bool,
@@ -22,7 +24,7 @@ pub struct Checked {
 }
 
 // Where a walk stands: the device, its state, the refusal or 0, whether the walk has stopped, and the records that passed.
-#[derive(Drop)]
+#[derive(Clone, Copy)]
 pub struct Walk {
     pub device: Device,
     pub state: State,

@@ -1,4 +1,6 @@
 // The wear that a whole recording leaves on bench T, counted from a fresh and blank part.
+#![tactic(auto)]
+
 ghost use Rattle.std.specs.Prelude.{◌≡◌};
 ghost use Rattle.trace_wear.specs.Wears.{worn_told};
 ghost use Rattle.recording_wear.specs.Recorded.{looks_recorded, fault_in, judged_blank, worn_recorded, recorded_told};

@@ -1,1 +1,2 @@
 // What is claimed of the wear that a recording leaves. Nothing runs here.
+#![tactic(auto)]

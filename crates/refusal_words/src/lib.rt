@@ -1,4 +1,6 @@
 // A refusal by its number, and what a refusal of a load file means, in words. Each public function takes any input.
+#![tactic(auto)]
+
 ghost use Rattle.std.specs.Prelude.{◌≡◌};
 ghost use Rattle.text.specs.Writing.{laid_at, behind};
 ghost use Rattle.refusal_words.specs.Words.{file_words, refused_text};

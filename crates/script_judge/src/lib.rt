@@ -1,5 +1,7 @@
 // A script judged: its first line at fault, or that it is allowed. The reader of a list and the reader of an item call each other:
 // with each list fewer levels are left to open, with each item fewer bytes to read.
+#![tactic(auto)]
+
 ghost use Rattle.std.specs.Prelude.{◌≡◌, true, ◌≤◌, ◌*◌, length};
 ghost use Rattle.script_judge.specs.Judges.{capped, script_judged};
 ghost use Rattle.script_judge.specs.Inner.{fault_spot, next_spot, closed_spot, item_comes, ReadTo, Sound, Ahead, Ended};
@@ -7,14 +9,14 @@ ghost use Rattle.script_judge.specs.Inner.{fault_spot, next_spot, closed_spot, i
 use script_lines::Word;
 
 // The first line at fault, and no lines; or no fault (0), and how many lines are written out.
-#[derive(Drop)]
+#[derive(Clone, Copy)]
 pub struct Judged {
     pub fault: usize,
     pub lines: usize,
 }
 
 // Where a reader stands: place in the text, lines that may still come, this line's number, lines written out so far; or a fault.
-#[derive(Drop)]
+#[derive(Clone, Copy)]
 struct Spot {
     fault: usize,
     at: usize,

@@ -1,11 +1,13 @@
 // The lines of a script: a trace line, a line that opens a group, `( nnn`, and one that closes it, `)`, each with its newline.
+#![tactic(auto)]
+
 ghost use Rattle.std.specs.Prelude.{◌≡◌, drop};
 ghost use Rattle.trace_lines.specs.Lines.{fits};
 ghost use Rattle.script_lines.specs.Words.{open_form, close_form, is_traced, is_opening, is_closing, count_stated, word_in, is_ends};
 ghost use Rattle.script_lines.specs.Words.{is_closes};
 
 // What stands at the front of a text: nothing, no line of a script, a trace line, an opening line with its count, a closing line.
-#[derive(Drop)]
+#[derive(Clone, Copy)]
 pub enum Word {
     Ends,
     Bad,

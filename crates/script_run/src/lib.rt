@@ -1,6 +1,8 @@
 // A script run on bench T: judged whole first, then walked, each group as often as its count says. Nothing is written out.
 // The reader of a list and the reader of an item call each other: with each list fewer levels are left to open, with each item fewer
 // bytes to read.
+#![tactic(auto)]
+
 ghost use Rattle.std.specs.Prelude.{◌≡◌, ◌+◌, ◌≤◌, length, take, drop};
 ghost use Rattle.common.specs.Lists.{copied, overlaid};
 ghost use Rattle.trace_lines.specs.Lines.{cycle_stated};
@@ -14,7 +16,7 @@ use script_lines::Word;
 use trace_replay::Replayed;
 
 // Where a run stands: place in the text, lines that may still come, bytes of output so far, and the device's state.
-#[derive(Drop)]
+#[derive(Clone, Copy)]
 struct Run {
     at: usize,
     left: usize,

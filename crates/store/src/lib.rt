@@ -1,5 +1,7 @@
 // The store on a part: find a letter's file, read by it, drop it, add a file. Each public function takes any input. A change is one run
 // of block 3 with its new contents as wanted; nothing else is written into the array.
+#![tactic(auto)]
+
 ghost use Rattle.std.specs.Prelude.{◌≡◌, not, [], ◌∷◌, length, eqb};
 ghost use Rattle.common.specs.Numbers.{row, given};
 ghost use Rattle.device.specs.Parts.{size_of};

@@ -1,5 +1,7 @@
 // What is said of a store: what it holds, as a map of its places and a row for each file; a refusal by its number and words; how a change
 // ended. Each public function takes any input.
+#![tactic(auto)]
+
 ghost use Rattle.std.specs.Prelude.{◌≡◌, true, false, ◌++◌, ◌∷◌, [], ◌<◌, ◌≤◌, ◌-◌, length};
 ghost use Rattle.std.specs.Float.{binary64};
 ghost use Rattle.std.specs.Float.Ieee.{of_int};
@@ -15,7 +17,7 @@ use file_codec::ReadBack;
 use store_survey::Spot;
 
 // Where a walk over the places stands: so many more belong to what was met last, and its letter on the map.
-#[derive(Drop)]
+#[derive(Clone, Copy)]
 struct Pace {
     skip: usize,
     mark: u8,

@@ -1,5 +1,7 @@
 // The new contents of the block that holds the store, made in lent memory of the block's length. Each public function takes any input;
 // a refusal leaves memory as it was.
+#![tactic(auto)]
+
 ghost use Rattle.std.specs.Prelude.{◌≡◌, true, not, [], ◌∷◌, ◌+◌, ◌*◌, ◌-◌, ◌/◌, ◌<◌, ◌≤◌, length, take, eqb, ltb};
 ghost use Rattle.common.specs.Lists.{overlaid};
 ghost use Rattle.common.specs.Numbers.{row, given};

@@ -1,4 +1,6 @@
 // A file found in the block that holds the store, and a reading straight from it. Each public function takes any input.
+#![tactic(auto)]
+
 ghost use Rattle.std.specs.Prelude.{◌≡◌, not, [], ◌∷◌, ◌%◌, length, eqb};
 ghost use Rattle.common.specs.Numbers.{row, given};
 ghost use Rattle.file_codec.specs.File.{in_room, left_in};
@@ -9,7 +11,7 @@ use reading::ReadingAnswer;
 use store_survey::Survey;
 
 // Where the file under a letter stands: 0, its first byte and its length; or the refusal, 0 and 0.
-#[derive(Drop)]
+#[derive(Clone, Copy)]
 pub struct Stands {
     pub number: u8,
     pub from: usize,
@@ -17,7 +19,7 @@ pub struct Stands {
 }
 
 // What a find gives back: 0 and the file's length, or the refusal and 0.
-#[derive(Drop)]
+#[derive(Clone, Copy)]
 pub struct Found {
     pub number: u8,
     pub length: usize,

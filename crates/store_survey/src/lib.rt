@@ -1,11 +1,13 @@
 // The walk over the places of a block: a proper store or not, the file under a letter, live blocks, the first long enough run of blank
 // places.
+#![tactic(auto)]
+
 ghost use Rattle.std.specs.Prelude.{◌≡◌, not, ◌*◌, ◌-◌, ◌<◌, ◌≤◌, length, get_or, replicate, set, eqb};
 ghost use Rattle.store_survey.specs.Survey.{spot_in, survey_of};
 ghost use Rattle.store_survey.specs.Inner.{sound_of, spot_of, more_by, twice_of, seen_by, dead_by, junk_by, blank_by, file_by, note_of};
 
 // What begins at a place: a blank place, a dead one, a file with its letter and its count of blocks, or none of these.
-#[derive(Drop)]
+#[derive(Clone, Copy)]
 pub enum Spot {
     Blank,
     Dead,
@@ -15,7 +17,7 @@ pub enum Spot {
 
 // What a walk has met: live blocks; the first place and the blocks of the asked letter's file; the blank places just behind; where the
 // first long enough run begins; whether all is proper, and whether there is such a run.
-#[derive(Drop)]
+#[derive(Clone, Copy)]
 pub struct Survey {
     pub live: usize,
     pub place: usize,

@@ -1,5 +1,7 @@
 // What is said of a call on a store: the words of the call become a part, a letter and what is asked; a question is answered by a line or
 // a file, a change by the image that its run leaves and a line. The public function takes any input.
+#![tactic(auto)]
+
 ghost use Rattle.std.specs.Prelude.{◌≡◌, false, ◌++◌, min, eqb, length, drop};
 ghost use Rattle.device.specs.Parts.{length_of};
 ghost use Rattle.text.specs.Writing.{laid_at, behind, Used};
@@ -20,7 +22,7 @@ use reading_text::NumberRead;
 
 // What a call gives back: the bytes of its line in front of out and the stream that it goes to, the bytes of a file in front of memory,
 // and whether the image was changed by a run that ended well.
-#[derive(Drop)]
+#[derive(Clone, Copy)]
 pub struct Said {
     pub used: usize,
     pub stream: u8,

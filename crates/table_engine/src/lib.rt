@@ -1,6 +1,8 @@
 // The second engine: one bus cycle at a time on a lent array, a write's action read off the table of `command_table`. Judging by
 // refusals 1 to 6, settling, reads, the start of an operation and the array's units are the first engine's; its tests of commands are not
 // used. Made for reading.
+#![tactic(auto)]
+
 ghost use Rattle.std.specs.Prelude.{◌≡◌};
 ghost use Rattle.units.specs.Units.{units, spare, lent};
 ghost use Rattle.model_rules.specs.Inner.{decide_kind, decide_judged};

@@ -1,4 +1,6 @@
 // The load file of a table in text, or the line that says why there is none. The public function takes any input.
+#![tactic(auto)]
+
 ghost use Rattle.std.specs.Prelude.{◌≡◌, ◌<◌, ◌≤◌, length};
 ghost use Rattle.text.specs.Writing.{laid_at, behind, Used, told_on};
 ghost use Rattle.file_codec.specs.File.{limit, in_room, writer_of};

@@ -1,10 +1,12 @@
 // Text: digits, numbers spelled by them, and pieces of text laid one behind the other. Each public function takes any input.
+#![tactic(auto)]
+
 ghost use Rattle.std.specs.Prelude.{◌≡◌, [], ◌≤◌, ◌<◌, ◌%◌, length, set};
 ghost use Rattle.text.specs.Digits.{is_digit, is_hex, digit_of, hex_of, digit_letter, spelled, width_of, decimal_of};
 ghost use Rattle.text.specs.Writing.{laid_at, behind};
 
 // What a program says: so many bytes in front of a lent slice, for standard output (1) or standard error (2).
-#[derive(Drop)]
+#[derive(Clone, Copy)]
 pub struct Told {
     pub used: usize,
     pub stream: u8,

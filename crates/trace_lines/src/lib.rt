@@ -1,4 +1,6 @@
 // A line of a trace: kind, RP#, OE#, VPP in five digits, address in four hexadecimal digits, data in two, single spaces, newline.
+#![tactic(auto)]
+
 ghost use Rattle.std.specs.Prelude.{◌≡◌, true};
 ghost use Rattle.trace_lines.specs.Lines.{is_kind, is_line, kind_of, five_digits, four_hex, two_hex, cycle_stated, read_line, line_told};
 ghost use Rattle.trace_lines.specs.Lines.{told_in};
@@ -7,7 +9,7 @@ ghost use Rattle.trace_lines.specs.Inner.{met_from, front_run, supply_run, addre
 use model_types::{Cycle, Kind, Pins};
 
 // What a line says: the cycle that it states, or that it is none.
-#[derive(Drop)]
+#[derive(Clone, Copy)]
 pub enum LineRead {
     NotALine,
     Stated(Cycle),

@@ -1,4 +1,6 @@
 // A trace replayed against the bench model: lines of 20 bytes in, answers of 8 bytes out.
+#![tactic(auto)]
+
 pub mod answers;
 
 ghost use Rattle.std.specs.Prelude.{◌≡◌, ◌++◌, ◌+◌, ◌*◌, ◌≤◌, ◌<◌, length, take, drop};
@@ -15,7 +17,7 @@ use model::Answer;
 use model_types::{Cycle, State};
 
 // How a replay went: refused by 37, or by nothing (0) with so many bytes of output.
-#[derive(Drop)]
+#[derive(Clone, Copy)]
 pub struct Replayed {
     pub number: u8,
     pub used: usize,

@@ -1,4 +1,6 @@
 // The wear that a whole trace leaves on bench T, counted from a fresh device.
+#![tactic(auto)]
+
 ghost use Rattle.std.specs.Prelude.{◌≡◌, ◌*◌, ◌≤◌, length};
 ghost use Rattle.model_states.specs.States.{fresh_state};
 ghost use Rattle.trace_lines.specs.Lines.{cycle_stated};
@@ -9,7 +11,7 @@ ghost use Rattle.trace_wear.specs.Inner.{states_of};
 use model_types::{State, Wear};
 
 // The counts of a trace's last state, or the number of its first bad line. A bad trace has no counts.
-#[derive(Drop)]
+#[derive(Clone, Copy)]
 pub enum Worn {
     Counted(Wear),
     BadLine(usize),

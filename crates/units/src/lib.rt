@@ -1,5 +1,7 @@
 // Units of lent bytes: what one bus cycle carries, a byte, or in word mode a word, low byte first. The leaves here are the only code
 // that knows where a unit's bytes lie.
+#![tactic(auto)]
+
 ghost use Rattle.std.specs.Prelude.{◌≡◌, ◌+◌, ◌*◌, ◌/◌, ◌%◌, ◌≤◌, ◌<◌, length, get_or, take, replicate, set, leb};
 ghost use Rattle.std.specs.Int.Bits.{bit_and};
 ghost use Rattle.common.specs.Lists.{overlaid};
@@ -8,13 +10,13 @@ ghost use Rattle.units.specs.Units.{pairs, unpaired, units, spare, units_in, byt
 ghost use Rattle.units.specs.Address.{first_byte, byte_of, byte_at};
 
 // Two kinds of address: neither stands for the other.
-#[derive(Drop)]
+#[derive(Clone, Copy)]
 pub struct WordAddress {
     pub word: usize,
 }
 
 // The address of a byte.
-#[derive(Drop)]
+#[derive(Clone, Copy)]
 pub struct ByteAddress {
     pub byte: usize,
 }

@@ -1,5 +1,7 @@
 // The vectors of the load file: a case a line of standard input, an answer a line of standard output.
 // A case is eighteen numbers of six digits; tests/vectors_file.py says what they mean.
+#![tactic(auto)]
+
 ghost use Rattle.std.specs.Prelude.{◌<◌};
 
 // Number k of a case.

@@ -1,5 +1,6 @@
 // Runs the interrupted loads that it reads, whole against the bench model or stepped by hand, and prints a line for each. The rows and
 // the lines that they must print come from tests/vectors_held.py, which has a loader of its own and says what a row holds.
+#![tactic(auto)]
 
 use device::{Device, Part};
 use loader::{Loader, Saying, Stage, Work};
@@ -13,7 +14,7 @@ use vectors_text::Group;
 const POLLS: usize = 9;
 
 // What is loaded and with what: the device, the levels, the block, and how much of each slice and list is lent.
-#[derive(Drop)]
+#[derive(Clone, Copy)]
 struct Setup {
     device: Device,
     pins: Pins,
@@ -27,7 +28,7 @@ struct Setup {
 }
 
 // What stands from row to row; `wear` has the counts of the states that rows put.
-#[derive(Drop)]
+#[derive(Clone, Copy)]
 struct Bench {
     setup: Setup,
     state: State,
@@ -408,7 +409,7 @@ fn sum_of(s: &[u8], asked: usize) -> u64 {
 }
 
 // What a line of a run shows beside the counts before it: the run's result, and digests of array, scratch and room.
-#[derive(Drop)]
+#[derive(Clone, Copy)]
 struct Shown {
     ran: Ran,
     array: u64,

@@ -1,5 +1,7 @@
 // Loads and verifies from a file: a case a line of standard input, an answer a line of standard output. A case is a name of 24 bytes and
 // 46 numbers of six digits, then seven counts of ten; tests/vectors_load.py says what they mean and works out the answers.
+#![tactic(auto)]
+
 ghost use Rattle.std.specs.Prelude.{◌<◌, ◌≤◌};
 
 use device::{Device, Part};

@@ -1,5 +1,6 @@
 // Runs the cases that it reads on the bench model and prints a line for each. The cases and the lines that they must print come
 // from tests/vectors_model.py, which has a model of its own and says what a row holds.
+#![tactic(auto)]
 
 use device::{Device, Part};
 use model::Seen;
@@ -8,7 +9,7 @@ use vectors_text::Group;
 
 // What stands from row to row: the device and its state, the counts of the states that rows put, how much of array and residue
 // is lent, the group, and the lines printed.
-#[derive(Drop)]
+#[derive(Clone, Copy)]
 struct Bench {
     device: Device,
     state: State,

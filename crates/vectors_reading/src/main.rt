@@ -1,10 +1,12 @@
 // The vectors of the readings: rows of standard input, answers on standard output. A row is sixteen bytes: a letter, eight hex digits, four
 // hex digits; tests/vectors_reading.py says what each letter does.
+#![tactic(auto)]
+
 use file_codec::Written;
 use reading::{Reading, ReadingAnswer};
 
 // How much of the payload, of the file and of the room counts.
-#[derive(Drop)]
+#[derive(Clone, Copy)]
 struct Sizes {
     payload: usize,
     file: usize,

@@ -1,5 +1,6 @@
 // Checks the recordings that it reads, record by record, and prints a line for each. The recordings and the lines that they must print
 // come from tests/vectors_recording.py, which has a check of its own and says what a row holds.
+#![tactic(auto)]
 
 use device::{Device, Part};
 use model_types::{Cycle, Kind, Phase, Pins, State, Wear};
@@ -9,7 +10,7 @@ use vectors_text::Group;
 
 // What stands from row to row: the device and its state, the counts of the states that rows put, how much of the array and of the
 // promised one is lent, the walk over the records, the group, and the lines printed.
-#[derive(Drop)]
+#[derive(Clone, Copy)]
 struct Bench {
     device: Device,
     state: State,

@@ -1,6 +1,7 @@
 // Runs the loads that it reads, whole against the bench model or stepped by hand, and prints a line for each. A whole run goes stage by
 // stage, and on copies cycle by cycle; a second line says where the two differ. The rows and the lines that they must print come from
 // tests/vectors_run.py, which has a loader of its own and says what a row holds.
+#![tactic(auto)]
 
 use device::{Device, Part};
 use loader::{Loader, Response, Saying, Stage, Work};
@@ -9,7 +10,7 @@ use model_types::{Cycle, Kind, Pins, State, Wear};
 use vectors_text::Group;
 
 // What is loaded and with what: the device, the levels, the block, and how much of each slice is lent.
-#[derive(Drop)]
+#[derive(Clone, Copy)]
 struct Setup {
     device: Device,
     pins: Pins,
@@ -20,7 +21,7 @@ struct Setup {
 }
 
 // What stands from row to row; `wear` has the counts of the states that rows put.
-#[derive(Drop)]
+#[derive(Clone, Copy)]
 struct Bench {
     setup: Setup,
     state: State,
@@ -363,7 +364,7 @@ fn sum_of(s: &[u8], asked: usize) -> u64 {
 }
 
 // What the run cycle by cycle returns, and digests of what it leaves.
-#[derive(Drop)]
+#[derive(Clone, Copy)]
 struct Other {
     ran: Ran,
     held: u64,

@@ -1,5 +1,7 @@
 // Scripts put together from pieces are run on lent slices, and a line is printed for each. Cases and lines come from
 // tests/vectors_script.py, which reads a script in its own way and says what a row and a line show.
+#![tactic(auto)]
+
 ghost use Rattle.std.specs.Prelude.{◌≤◌, length};
 
 use trace_replay::Replayed;
@@ -69,7 +71,7 @@ fn run(number: usize, text: &[u8], room: usize, array: &mut [u8], residue: &[u8]
 }
 
 // What is put together so far has so many bytes; the next case has this number.
-#[derive(Drop)]
+#[derive(Clone, Copy)]
 struct Held {
     len: usize,
     number: usize,

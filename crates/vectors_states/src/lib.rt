@@ -1,6 +1,8 @@
 // What the vector programs share about a device: its state, its counts of erases and its description read off a row, modes and
 // phases as letters.
 // Each function takes any input.
+#![tactic(auto)]
+
 ghost use Rattle.std.specs.Prelude.{◌≡◌, ℕ, length, replicate};
 ghost use Rattle.vectors_states.specs.Letters.{mode_by, phase_by, mode_letter, phase_letter, wear_at, state_at, word_by, device_at};
 ghost use Rattle.vectors_states.specs.Letters.{same_wear, same_state};

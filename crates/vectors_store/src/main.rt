@@ -1,5 +1,7 @@
 // Makes the changes to stores that it reads, finds and reads by them, and prints a line for each. The rows and the lines that they must
 // print come from tests/vectors_store.py, which has a store of its own and says what a row holds.
+#![tactic(auto)]
+
 use device::{Device, Part};
 use file_codec::Written;
 use loader_run::Ran;
@@ -8,7 +10,7 @@ use reading::{Reading, ReadingAnswer};
 use vectors_text::Group;
 
 // With what a change is made: the device, the levels, and how much of each slice is lent.
-#[derive(Drop)]
+#[derive(Clone, Copy)]
 struct Setup {
     device: Device,
     pins: Pins,
@@ -18,7 +20,7 @@ struct Setup {
 }
 
 // What stands from row to row; `wear` has the counts of the states that rows put, `file` is how much of the file is lent.
-#[derive(Drop)]
+#[derive(Clone, Copy)]
 struct Bench {
     setup: Setup,
     state: State,

@@ -1,11 +1,13 @@
 // What the vector programs share about text and bytes: numbers read off a row, patterns and digests. Each
 // function takes any input.
+#![tactic(auto)]
+
 ghost use Rattle.std.specs.Prelude.{◌≡◌, ℕ, ◌+◌, ◌<◌, ◌≤◌, ◌%◌, min, max, length, replicate};
 ghost use Rattle.vectors_text.specs.Text.{digit_read, number_read, field_of, next_row, group_at};
 ghost use Rattle.vectors_text.specs.Patterns.{digest_of, pattern_of};
 
 // The four letters of a group of rows.
-#[derive(Drop)]
+#[derive(Clone, Copy)]
 pub struct Group {
     pub a: u8,
     pub b: u8,

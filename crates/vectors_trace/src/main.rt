@@ -1,9 +1,11 @@
 // Replays generated inputs on lent slices by each engine and prints a line for each. The cases and the lines that they must print come
 // from tests/vectors_trace.py, which reads a trace in its own way and says what a line shows.
+#![tactic(auto)]
+
 use trace_replay::Replayed;
 
 // A case: so many bytes of input, with one byte put at a place, and so many bytes of room.
-#[derive(Drop)]
+#[derive(Clone, Copy)]
 struct Case {
     bytes: usize,
     place: usize,

@@ -1,5 +1,6 @@
 // Runs the cases that it reads on the report of wear and prints a line for each. The cases and the lines that they must print come
 // from tests/vectors_wear.py, which works a report out from the request and says what a row holds.
+#![tactic(auto)]
 
 ghost use Rattle.std.specs.Prelude.{◌≡◌, length};
 
@@ -9,7 +10,7 @@ use wear::{Report, Reported, Tally};
 
 // What stands from row to row: the device number that is reported on, the traces held and how much of them is lent, a report that is
 // added to trace by trace, the group, and the lines printed.
-#[derive(Drop)]
+#[derive(Clone, Copy)]
 struct Desk {
     number: u8,
     held: usize,

@@ -1,5 +1,7 @@
 // The line that a verify prints: the words of a call become a part, a block and a letter, the image is verified, and the result is told.
 // Each public function takes any input.
+#![tactic(auto)]
+
 ghost use Rattle.std.specs.Prelude.{◌≡◌, ◌++◌, min, drop};
 ghost use Rattle.device.specs.Parts.{length_of};
 ghost use Rattle.text.specs.Writing.{laid_at, behind, Used, told_on};

@@ -1,5 +1,7 @@
 // The report on the wear of many traces from one device: for each block the total, the largest and the smallest count of erases, and
 // how many traces passed the sheet's 100,000.
+#![tactic(auto)]
+
 ghost use Rattle.std.specs.Prelude.{◌≡◌, false, not, ◌+◌, ◌-◌, ◌*◌, ◌<◌, ◌≤◌, eqb, length, get_or};
 ghost use Rattle.model_types.specs.Counts.{stop};
 ghost use Rattle.wear.specs.Reports.{most, added_up, larger, lowest, passing, tallied, no_tally, no_report, added, report_from, tally_of};
@@ -11,7 +13,7 @@ use model_types::Wear;
 use model_types::counts::raise;
 
 // Of one block: the sum of its counts, the largest, the smallest (0 of no traces) and how many are over 100,000.
-#[derive(Drop)]
+#[derive(Clone, Copy)]
 pub struct Tally {
     pub total: u64,
     pub largest: u32,
@@ -20,7 +22,7 @@ pub struct Tally {
 }
 
 // Of the traces so far.
-#[derive(Drop)]
+#[derive(Clone, Copy)]
 pub struct Report {
     pub traces: u32,
     pub block0: Tally,
@@ -33,7 +35,7 @@ pub struct Report {
 }
 
 // A refusal, or 0, with the report; refused, with the one that there was before.
-#[derive(Drop)]
+#[derive(Clone, Copy)]
 pub struct Reported {
     pub number: u8,
     pub report: Report,

@@ -1,5 +1,7 @@
 // What the wear program says of the traces and recordings that its arguments name: a line for each that is not counted, and the table
 // where all are. The public functions take any input.
+#![tactic(auto)]
+
 ghost use Rattle.std.specs.Prelude.{◌≡◌};
 ghost use Rattle.io.specs.Counts.{IsPrefixLen};
 ghost use Rattle.wear_print.specs.Tables.{laid_in, count_in};
@@ -13,14 +15,14 @@ use wear::Report;
 pub const ROOM: usize = 309969;
 
 // What is known after some traces: the report on those that are counted, and whether all of them are.
-#[derive(Drop)]
+#[derive(Clone, Copy)]
 pub struct Counting {
     pub report: Report,
     pub good: bool,
 }
 
 // The same after one trace more, and how many bytes in front of the lent slice say why that one is not counted: none where it is.
-#[derive(Drop)]
+#[derive(Clone, Copy)]
 pub struct Said {
     pub counting: Counting,
     pub used: usize,

@@ -1,5 +1,7 @@
 // The report on wear as a table in text, into the front of a slice: a header, and a line for each of bench T's four blocks. And a line for
 // a trace that is not in it.
+#![tactic(auto)]
+
 ghost use Rattle.std.specs.Prelude.{◌≡◌, ◌+◌, ◌≤◌, length};
 ghost use Rattle.common.specs.Lists.{overlaid};
 ghost use Rattle.io.specs.Counts.{IsPrefixLen};

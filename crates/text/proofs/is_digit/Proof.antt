@@ -1,4 +1,4 @@
--- `text::is_digit_lem` meets its contract.
+-- `text::is_digit` meets its contract.
 use mathlib.Core.Path.{refl}
 use Rattle.text.specs.Digits.{is_digit}
 use Rattle.text.proofs.is_digit.Statement.{statement}
