@@ -1,0 +1,6 @@
+use borrow.Author.Rules.{rules}
+use mathlib.Core.Path.{refl}
+use Rattle.units.proofs.program_byte.Goals as goal
+
+pub returns : goal.returns
+returns c = refl
