@@ -82,9 +82,9 @@ module _ (s : Shape) (e : Even s) where
   unfolding offset_in
   offset_in_lem k = ap (λ (ls : List ℕ). offset_at ls k) e ∙ offset_twice (lengths_of (in_words s)) k
 
-  holder_in : (o b x : ℕ) → b < 2 → x ≡ 2 * o + b → holder_in s x ≡ holder_in (in_words s) o
+  holder_in_lem : (o b x : ℕ) → b < 2 → x ≡ 2 * o + b → holder_in s x ≡ holder_in (in_words s) o
   unfolding holder_in
-  holder_in o b x h q = ap (λ (ls : List ℕ). holder ls x) e ∙ holder_twice (lengths_of (in_words s)) o b x h q
+  holder_in_lem o b x h q = ap (λ (ls : List ℕ). holder ls x) e ∙ holder_twice (lengths_of (in_words s)) o b x h q
 
   start_in_lem : (k : ℕ) → start_in s k ≡ 2 * start_in (in_words s) k
   unfolding start_in in_words
@@ -95,14 +95,14 @@ module _ (s : Shape) (e : Even s) where
       go true a b c = omega arith
       go false a b c = b
 
-  block_in : (a b : ℕ) → a < size_in (in_words s) → b < 2 → block_in s (2 * a + b) ≡ block_in (in_words s) a
+  block_in_lem : (a b : ℕ) → a < size_in (in_words s) → b < 2 → block_in s (2 * a + b) ≡ block_in (in_words s) a
   unfolding block_in mirrored in_words
-  block_in a b h l = go s.top size_in_lem
+  block_in_lem a b h l = go s.top size_in_lem
     where
       go : (top : Bool) → size_in s ≡ 2 * size_in (in_words s)
           → holder_in s (if top then size_in s - 1 - (2 * a + b) else 2 * a + b) ≡ holder_in (in_words s) (if top then size_in (in_words s) - 1 - a else a)
-      go true q = holder_in (size_in (in_words s) - 1 - a) (1 - b) (size_in s - 1 - (2 * a + b)) (omega arith) (omega arith)
-      go false q = holder_in a b (2 * a + b) l refl
+      go true q = holder_in_lem (size_in (in_words s) - 1 - a) (1 - b) (size_in s - 1 - (2 * a + b)) (omega arith) (omega arith)
+      go false q = holder_in_lem a b (2 * a + b) l refl
 
 pub size_twice : (n : ℕ) → size_of (in_bytes n) ≡ 2 * size_of (word_wide n)
 unfolding size_of shape_of
@@ -118,4 +118,4 @@ start_twice n k = start_in_lem (row_of n) (even n) k
 
 pub both_bytes : (n a b : ℕ) → a < size_of (word_wide n) → b < 2 → block_of (in_bytes n) (2 * a + b) ≡ block_of (word_wide n) a
 unfolding block_of size_of shape_of
-both_bytes n a b h l = block_in (row_of n) (even n) a b h l
+both_bytes n a b h l = block_in_lem (row_of n) (even n) a b h l

@@ -1,0 +1,7 @@
+use borrow.Author.Rules.{rules}
+use Rattle.device.specs.Parts.{unknown_part}
+use Rattle.device.proofs.unknown_part.Goals as goal
+
+pub returns : goal.returns
+unfolding unknown_part
+returns c = simp c.is_large.ensures
