@@ -1,7 +1,9 @@
 -- `file_check::check_number` meets its contract.
 use borrow.Author.Rules.{rules}
 use mathlib.Core.Path.{◌≡◌, sym, ◌∙◌}
-use lib.ListN.{take}
+use mathlib.Core.List.{List}
+use Prim.Native.Nat.{ℕ}
+use lib.ListN.{take, get_or}
 use Rattle.file_check.specs.Check.{check_of, stored_of, pair}
 use Rattle.file_check.proofs.Verdicts.{check_right, check_blank, check_not_right}
 use Rattle.file_check.proofs.check_number.Goals as goal
@@ -11,7 +13,7 @@ carried : (block : List ℕ) (r high low : ℕ) → r ≡ pair high low → high
 carried block r high low j h l = j ∙ (λ i. pair (h i) (l i))
 
 pub returns-then-right-stored : goal.returns-then-right-stored
-returns-then-right-stored c = sym (check_right _ (sym c.check-right.ensures ∙ c.if-right-stored.true ∙ carried c))
+returns-then-right-stored c = sym (check_right _ (sym c.check-right.ensures ∙ c.if-right-stored.true ∙ carried c.args.block.now c.joined-stored.result _ _ c.joined-stored.ensures.0 c.nth.ensures c.nth-2.ensures))
 
 pub returns-then-is_blank : goal.returns-then-is_blank
 returns-then-is_blank c = sym (check_blank _ (sym c.is_blank.ensures ∙ c.if-is_blank.true))
@@ -20,5 +22,5 @@ pub returns : goal.returns
 returns c =
     let b = c.args.block.now in
     sym
-    (check_not_right b (λ (e : check_of (take 510 b) ≡ stored_of b). c.if-right-stored.false (c.check-right.ensures ∙ e ∙ sym (carried c)))
+    (check_not_right b (λ (e : check_of (take 510 b) ≡ stored_of b). c.if-right-stored.false (c.check-right.ensures ∙ e ∙ sym (carried b c.joined-stored.result _ _ c.joined-stored.ensures.0 c.nth.ensures c.nth-2.ensures)))
     (sym c.is_blank.ensures ∙ c.if-is_blank.false))
