@@ -1,0 +1,8 @@
+-- `file_block::is_letter` meets its contract.
+use borrow.Author.Rules.{rules}
+use Rattle.file_block.specs.Block.{is_letter}
+use Rattle.file_block.proofs.is_letter.Goals as goal
+
+pub returns : goal.returns
+unfolding is_letter
+returns c = simp c.one_of.ensures

@@ -1,0 +1,16 @@
+-- `vectors_text::digest` meets its contract: what is left to go through gives the digest of all.
+use mathlib.Core.Path.{◌≡◌, refl, sym, ap, ◌∙◌}
+use Prim.Native.Nat.{ℕ, ◌+◌, ◌*◌, ◌-◌, ◌%◌, ◌≤◌, ◌<◌}
+use native.Mathlib.Omega.{arith}
+use borrow.Author.Rules.{rules}
+use lib.ListN.{length, get_or, drop}
+use Rattle.vectors_text.specs.Text.{walk}
+use Rattle.vectors_text.proofs.Text.{walk_next, walk_end}
+use Rattle.vectors_text.specs.Patterns.{digest_more, digest_of}
+use Rattle.vectors_text.proofs.digest.Given as goal
+
+abbrev pub invariant-loop-i : goal.invariant-loop-i
+invariant-loop-i l = (l.h < 65521) × (l.i ≤ length l.s) × (walk digest_more l.h (drop l.i l.s) ≡ walk digest_more 0 l.s)
+
+abbrev pub decreases-loop-i : goal.decreases-loop-i
+decreases-loop-i l = length l.s - l.i

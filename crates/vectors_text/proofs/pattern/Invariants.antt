@@ -1,0 +1,19 @@
+-- `pattern` meets its contract: after i rounds the first i bytes are the pattern's, which goes on from v.
+use mathlib.Core.Path.{◌≡◌, refl, sym, ap, ◌∙◌}
+use mathlib.Core.List.{List}
+use Prim.Native.Nat.{ℕ, ◌+◌, ◌-◌, ◌%◌, ◌≤◌, ◌<◌}
+use native.Mathlib.Omega.{arith}
+use native.Mathlib.Nat.{mod-lt}
+use lib.ListN.{length, drop, set, length-set}
+use Rattle.common.specs.Lists.{overwritten}
+use Rattle.common.proofs.Lists.{overwritten_more, overwritten_all}
+use Rattle.vectors_text.specs.Patterns.{pattern_of, pattern_from}
+use Rattle.vectors_text.proofs.Patterns.{pattern_length, pattern_byte, pattern_next}
+use Rattle.vectors_text.proofs.pattern.Given as goal
+
+abbrev pub invariant-loop-i : goal.invariant-loop-i
+invariant-loop-i l =
+    (l.v < l.m) × (l.i ≤ length l.initial.s) × (length l.s ≡ length l.initial.s) × (l.s ≡ overwritten l.i (pattern_from l.m l.d (length l.initial.s) l.initial.v) l.initial.s) × (drop l.i (pattern_from l.m l.d (length l.initial.s) l.initial.v) ≡ pattern_from l.m l.d (length l.initial.s - l.i) l.v)
+
+abbrev pub decreases-loop-i : goal.decreases-loop-i
+decreases-loop-i l = length l.initial.s - l.i

@@ -1,0 +1,13 @@
+-- `vectors_text::word_at` meets its contract: the part cut out is the field.
+use mathlib.Core.Path.{ap, ◌∙◌}
+use mathlib.Core.List.{List}
+use Prim.Native.Nat.{ℕ}
+use borrow.Author.Rules.{rules}
+use Rattle.vectors_text.specs.Text.{number_read}
+use Rattle.vectors_text.proofs.Text.{field_part}
+use Rattle.vectors_text.proofs.word_at.Goals as goal
+
+pub returns : goal.returns
+returns c =
+    let a = c.args in
+    c.number.ensures ∙ ap (λ (l : List ℕ). number_read a.base l) (field_part a.s.now a.at a.n _ _ c.least-from.ensures c.least-count.ensures)
