@@ -2,7 +2,6 @@
 use mathlib.Core.Path.{◌∙◌}
 use borrow.Author.Tests.{ne_eqb}
 use Rattle.c_blocks.specs.Table.{block_at}
-use borrow.Author.Rules.{rules}
 use Rattle.c_blocks.proofs.block_at.Goals as goal
 
 pub returns-in-1 : goal.returns-in-1

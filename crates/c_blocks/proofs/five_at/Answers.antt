@@ -1,7 +1,6 @@
 -- `c_blocks::five_at` meets its contract.
 use borrow.Author.Tests.{ne_eqb}
 use Rattle.c_blocks.specs.Table.{five_at}
-use borrow.Author.Rules.{rules}
 use Rattle.c_blocks.proofs.five_at.Goals as goal
 
 pub returns-in-0 : goal.returns-in-0

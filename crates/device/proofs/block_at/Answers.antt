@@ -1,4 +1,3 @@
-use borrow.Author.Rules.{rules}
 use Rattle.device.specs.Parts.{block_in}
 use Rattle.device.proofs.block_at.Goals as goal
 

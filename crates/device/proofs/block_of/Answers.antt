@@ -1,4 +1,3 @@
-use borrow.Author.Rules.{rules}
 use Rattle.device.specs.Parts.{block_of}
 use Rattle.device.proofs.block_of.Goals as goal
 

@@ -1,4 +1,3 @@
-use borrow.Author.Rules.{rules}
 use mathlib.Core.Path.{ap, ◌∙◌}
 use Rattle.device.specs.Inner.{span_in}
 use Rattle.device.specs.Parts.{start_of, length_of}

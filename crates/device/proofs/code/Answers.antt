@@ -1,4 +1,3 @@
-use borrow.Author.Rules.{rules}
 use Rattle.device.specs.Parts.{code_of}
 use Rattle.device.proofs.code.Goals as goal
 

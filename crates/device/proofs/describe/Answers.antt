@@ -1,4 +1,3 @@
-use borrow.Author.Rules.{rules}
 use Rattle.device.specs.Parts.{shape_of}
 use Rattle.device.proofs.describe.Goals as goal
 

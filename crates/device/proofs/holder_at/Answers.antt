@@ -1,4 +1,3 @@
-use borrow.Author.Rules.{rules}
 use borrow.Author.Tests.{lt-ltb, le-ltb}
 use Rattle.device.specs.Parts.{holder_in}
 use Rattle.device.proofs.holder_at.Goals as goal

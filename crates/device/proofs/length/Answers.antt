@@ -1,4 +1,3 @@
-use borrow.Author.Rules.{rules}
 use Rattle.device.specs.Parts.{length_of}
 use Rattle.device.proofs.length.Goals as goal
 

@@ -1,4 +1,3 @@
-use borrow.Author.Rules.{rules}
 use Rattle.device.specs.Parts.{mirrored}
 use Rattle.device.proofs.mirror.Goals as goal
 

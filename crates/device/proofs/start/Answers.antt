@@ -1,4 +1,3 @@
-use borrow.Author.Rules.{rules}
 use Rattle.device.specs.Parts.{start_of}
 use Rattle.device.proofs.start.Goals as goal
 

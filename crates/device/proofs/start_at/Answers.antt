@@ -1,4 +1,3 @@
-use borrow.Author.Rules.{rules}
 use Rattle.device.specs.Parts.{start_in}
 use Rattle.device.proofs.start_at.Goals as goal
 

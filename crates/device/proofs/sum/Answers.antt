@@ -1,4 +1,3 @@
-use borrow.Author.Rules.{rules}
 use native.Mathlib.Omega.{arith}
 use Rattle.device.specs.Parts.{size_in}
 use Rattle.device.proofs.sum.Goals as goal

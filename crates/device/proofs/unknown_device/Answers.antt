@@ -1,4 +1,3 @@
-use borrow.Author.Rules.{rules}
 use Rattle.device.specs.Parts.{unknown_device}
 use Rattle.device.proofs.unknown_device.Goals as goal
 

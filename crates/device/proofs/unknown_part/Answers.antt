@@ -1,4 +1,3 @@
-use borrow.Author.Rules.{rules}
 use Rattle.device.specs.Parts.{unknown_part}
 use Rattle.device.proofs.unknown_part.Goals as goal
 

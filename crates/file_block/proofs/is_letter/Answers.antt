@@ -1,5 +1,4 @@
 -- `file_block::is_letter` meets its contract.
-use borrow.Author.Rules.{rules}
 use Rattle.file_block.specs.Block.{is_letter}
 use Rattle.file_block.proofs.is_letter.Goals as goal
 

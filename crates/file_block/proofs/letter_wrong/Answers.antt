@@ -1,5 +1,4 @@
 -- `file_block::letter_wrong` meets its contract.
-use borrow.Author.Rules.{rules}
 use Rattle.file_block.specs.Block.{letter_wrong}
 use Rattle.file_block.proofs.letter_wrong.Goals as goal
 

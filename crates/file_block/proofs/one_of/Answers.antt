@@ -1,8 +1,8 @@
 -- `file_block::one_of` meets its contract: what was passed is not x, so x is looked for in the rest.
-use mathlib.Core.Path.{◌≡◌, refl, sym, ap, ◌∙◌}
-use Prim.Native.Nat.{◌≤◌, ◌-◌}
+use mathlib.Core.Path.{refl, sym, ap, ◌∙◌}
+use Prim.Native.Nat.{◌-◌}
 use native.Mathlib.Omega.{arith}
-use lib.ListN.{length, drop, drop_of_length-le}
+use lib.ListN.{drop_of_length-le}
 use Rattle.file_block.specs.Block.{within}
 use Rattle.file_block.proofs.Walks.{found, passed}
 use Rattle.file_block.proofs.one_of.Goals as goal

@@ -1,5 +1,4 @@
 -- `file_block::place_wrong` meets its contract.
-use borrow.Author.Rules.{rules}
 use Rattle.file_block.specs.Block.{place_wrong}
 use Rattle.file_block.proofs.place_wrong.Goals as goal
 

@@ -1,5 +1,4 @@
 -- `file_block::unsound_number` meets its contract.
-use borrow.Author.Rules.{rules}
 use borrow.Author.Tests.{eq-eqb, ne_eqb}
 use mathlib.Core.Path.{sym, ◌∙◌}
 use Rattle.file_block.specs.Block.{unsound_number}

@@ -1,5 +1,4 @@
 -- `file_block::used_wrong` meets its contract.
-use borrow.Author.Rules.{rules}
 use borrow.Author.Tests.{eq-eqb, ne_eqb}
 use Rattle.file_block.specs.Block.{used_wrong}
 use Rattle.file_block.proofs.used_wrong.Goals as goal

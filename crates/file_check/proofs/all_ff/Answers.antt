@@ -5,7 +5,7 @@ use Prim.Native.Nat.{◌≤◌, ◌-◌}
 use native.Mathlib.Omega.{arith}
 use lib.Bits.{and_le_l}
 use lib.Dec.{eqb}
-use lib.ListN.{length, drop, drop_of_length-le, get_or}
+use lib.ListN.{drop, drop_of_length-le, get_or}
 use Rattle.common.specs.Choice.{if◌then◌else◌}
 use Rattle.file_check.specs.Check.{all_are}
 use Rattle.file_check.proofs.Walks.{gathered}

@@ -1,14 +1,11 @@
 -- `file_check::all_ff` meets its contract: the bits of what was passed, and the rest, decide.
-use mathlib.Core.Path.{◌≡◌, refl, sym, ap, ◌∙◌}
-use mathlib.Core.Bool.{Bool, true, false}
+use mathlib.Core.Path.{◌≡◌}
+use mathlib.Core.Bool.{false}
 use Prim.Native.Nat.{◌≤◌, ◌-◌}
-use native.Mathlib.Omega.{arith}
-use lib.Bits.{and_le_l}
 use lib.Dec.{eqb}
-use lib.ListN.{length, drop, drop_of_length-le, get_or}
+use lib.ListN.{length, drop}
 use Rattle.common.specs.Choice.{if◌then◌else◌}
 use Rattle.file_check.specs.Check.{all_are}
-use Rattle.file_check.proofs.Walks.{gathered}
 use Rattle.file_check.proofs.all_ff.Given as goal
 
 abbrev pub invariant-loop-i : goal.invariant-loop-i

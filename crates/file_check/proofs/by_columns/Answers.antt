@@ -1,9 +1,6 @@
 -- `by_columns` meets its contract: the columns hold the sums of the bytes from the place on.
-use mathlib.Core.Path.{◌≡◌, refl}
-use Prim.Native.Nat.{◌≤◌, ◌%◌}
+use mathlib.Core.Path.{refl}
 use native.Mathlib.Omega.{arith}
-use lib.ListN.{length}
-use Rattle.file_check.specs.Inner.{From}
 use Rattle.file_check.proofs.Sums.{held_start, held_at}
 use Rattle.file_check.proofs.by_columns.Goals as goal
 

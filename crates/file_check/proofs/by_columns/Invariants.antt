@@ -1,10 +1,8 @@
 -- `by_columns` meets its contract: the columns hold the sums of the bytes from the place on.
-use mathlib.Core.Path.{◌≡◌, refl}
+use mathlib.Core.Path.{◌≡◌}
 use Prim.Native.Nat.{◌≤◌, ◌%◌}
-use native.Mathlib.Omega.{arith}
 use lib.ListN.{length}
 use Rattle.file_check.specs.Inner.{From}
-use Rattle.file_check.proofs.Sums.{held_start, held_at}
 use Rattle.file_check.proofs.by_columns.Given as goal
 
 abbrev pub invariant-loop-place : goal.invariant-loop-place

@@ -1,13 +1,9 @@
 -- `check_all` meets its contract: running sums of the bytes from a place on are what the weighted sum makes of them.
-use borrow.Author.Rules.{rules}
-use mathlib.Core.Path.{◌≡◌, ◌∙◌, ap, subst}
-use Prim.Native.Nat.{ℕ, ◌≤◌, ◌<◌, ◌+◌, ◌*◌, ◌-◌, ◌%◌}
-use native.Mathlib.Omega.{arith}
-use lib.ListN.{length, get_or, drop, length-drop}
-use Rattle.file_check.specs.Check.{wsum, check_of}
-use Rattle.file_check.specs.Inner.{sum_of, Small}
-use Rattle.file_check.proofs.Walks.{one_more, sum_more}
-use Rattle.file_check.proofs.Sums.{held_small}
+use mathlib.Core.Path.{◌≡◌}
+use Prim.Native.Nat.{◌≤◌, ◌+◌, ◌*◌, ◌-◌}
+use lib.ListN.{length, drop}
+use Rattle.file_check.specs.Check.{wsum}
+use Rattle.file_check.specs.Inner.{sum_of}
 use Rattle.file_check.proofs.check_all.Given as goal
 
 abbrev pub invariant-loop-place : goal.invariant-loop-place

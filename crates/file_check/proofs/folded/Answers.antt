@@ -1,5 +1,4 @@
 -- `folded` meets its contract.
-use borrow.Author.Rules.{rules}
 use native.Mathlib.Omega.{arith}
 use Prim.Native.Nat.{◌/◌, ◌<◌}
 use Rattle.file_check.proofs.Sums.{high_fits}

@@ -1,5 +1,4 @@
 -- `four` meets its contract.
-use borrow.Author.Rules.{rules}
 use native.Mathlib.Omega.{arith}
 use Prim.Native.Nat.{◌≤◌, ◌+◌}
 use lib.ListN.{length, drop, length-drop}

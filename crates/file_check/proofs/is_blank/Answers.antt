@@ -1,5 +1,4 @@
 -- `file_check::is_blank` meets its contract.
-use borrow.Author.Rules.{rules}
 use mathlib.Core.Path.{◌∙◌}
 use Rattle.file_check.proofs.Verdicts.{blank_short, blank_whole}
 use Rattle.file_check.proofs.is_blank.Goals as goal

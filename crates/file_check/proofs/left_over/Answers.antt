@@ -1,5 +1,4 @@
 -- `left_over` meets its contract: two folds and one subtraction.
-use borrow.Author.Rules.{rules}
 use Rattle.file_check.proofs.Sums.{folds, folds_small}
 use Rattle.file_check.proofs.left_over.Goals as goal
 

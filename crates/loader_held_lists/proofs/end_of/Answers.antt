@@ -1,4 +1,3 @@
-use borrow.Author.Rules.{rules}
 use native.Mathlib.Omega.{arith}
 use Rattle.loader_held_lists.proofs.Looking.{end_small}
 use Rattle.loader_held_lists.proofs.end_of.Goals as goal

@@ -1,7 +1,4 @@
-use borrow.Author.Rules.{rules}
-use native.Mathlib.Omega.{arith}
-use borrow.Author.Tests.{lt-ltb, le-ltb, le-leb, lt-leb, eq-eqb, ne_eqb}
-use mathlib.Core.Path.{refl, sym, ◌∙◌}
+use mathlib.Core.Path.{sym, ◌∙◌}
 use Rattle.loader_held_lists.specs.Listings.{held_number, room_number}
 use Rattle.loader_held_lists.proofs.list_number.Reads as reads
 use Rattle.loader_held_lists.proofs.list_number.Lts as lts

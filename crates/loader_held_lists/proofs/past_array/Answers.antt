@@ -1,7 +1,3 @@
-use borrow.Author.Rules.{rules}
-use native.Mathlib.Omega.{arith}
-use borrow.Author.Tests.{lt-ltb, le-ltb, le-leb, lt-leb, eq-eqb, ne_eqb}
-use mathlib.Core.Path.{refl, sym, ◌∙◌}
 use Rattle.loader_held_lists.specs.Listings.{past_array}
 use Rattle.loader_held_lists.proofs.past_array.Reads as reads
 use Rattle.loader_held_lists.proofs.past_array.Lts as lts

@@ -1,7 +1,6 @@
 use mathlib.Core.Path.{ap, ◌∙◌}
 use Prim.Native.Nat.{ℕ}
 use lib.Dec.{ltb}
-use borrow.Author.Rules.{rules}
 use Rattle.loader_held_lists.specs.Listings.{short_room}
 use Rattle.loader_held_lists.proofs.Looking.{short_units}
 use Rattle.loader_held_lists.proofs.short_room.Goals as goal

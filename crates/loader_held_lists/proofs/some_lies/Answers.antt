@@ -1,12 +1,9 @@
 -- `loader_held_lists::some_lies` meets its contract: what is left to look at is what was to look at.
-use mathlib.Core.Path.{◌≡◌, refl, sym, ap, ◌∙◌}
+use mathlib.Core.Path.{refl, sym, ◌∙◌}
 use mathlib.Core.Bool.{Bool, true, false, ◌&&◌, ◌||◌}
-use Prim.Native.Nat.{ℕ, ◌+◌, ◌-◌, ◌≤◌}
+use Prim.Native.Nat.{ℕ, ◌-◌}
 use native.Mathlib.Omega.{arith}
-use borrow.Author.Rules.{rules}
-use lib.ListN.{length, get_or, drop}
 use lib.Dec.{ltb, leb}
-use Rattle.loader_held_lists.specs.Listings.{some_of}
 use Rattle.loader_held_lists.proofs.Looking.{some_found, some_later, some_over}
 use Rattle.loader_held_lists.proofs.some_lies.Goals as goal
 

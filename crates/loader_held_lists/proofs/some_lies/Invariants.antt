@@ -1,13 +1,10 @@
 -- `loader_held_lists::some_lies` meets its contract: what is left to look at is what was to look at.
-use mathlib.Core.Path.{◌≡◌, refl, sym, ap, ◌∙◌}
-use mathlib.Core.Bool.{Bool, true, false, ◌&&◌, ◌||◌}
-use Prim.Native.Nat.{ℕ, ◌+◌, ◌-◌, ◌≤◌}
-use native.Mathlib.Omega.{arith}
-use borrow.Author.Rules.{rules}
-use lib.ListN.{length, get_or, drop}
+use mathlib.Core.Path.{◌≡◌}
+use mathlib.Core.Bool.{Bool, ◌&&◌, ◌||◌}
+use Prim.Native.Nat.{ℕ, ◌-◌, ◌≤◌}
+use lib.ListN.{length, drop}
 use lib.Dec.{ltb, leb}
 use Rattle.loader_held_lists.specs.Listings.{some_of}
-use Rattle.loader_held_lists.proofs.Looking.{some_found, some_later, some_over}
 use Rattle.loader_held_lists.proofs.some_lies.Given as goal
 
 abbrev test : Bool → ℕ → ℕ → ℕ → Bool

@@ -1,13 +1,8 @@
 -- `loader::walk::rises_in` meets its contract: what is left to look at is what was to look at.
-use mathlib.Core.Path.{◌≡◌, sym, ap, ap₂, ◌∙◌}
-use mathlib.Core.Bool.{Bool, true, false, ◌||◌}
-use Prim.Native.Nat.{ℕ, ◌+◌, ◌-◌, ◌≤◌}
-use native.Mathlib.Omega.{arith}
-use borrow.Author.Rules.{rules}
-use lib.ListN.{length, get_or}
+use mathlib.Core.Path.{◌≡◌}
+use Prim.Native.Nat.{◌-◌, ◌≤◌}
 use Rattle.units.specs.Units.{units}
-use Rattle.loader_walk.specs.Walks.{must_rise, rises, rises_in}
-use Rattle.loader_walk.proofs.Walking.{rises_round, rises_over}
+use Rattle.loader_walk.specs.Walks.{rises, rises_in}
 use Rattle.loader_walk.proofs.rises_in.Given as goal
 
 abbrev pub invariant-loop-i : goal.invariant-loop-i

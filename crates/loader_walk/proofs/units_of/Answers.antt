@@ -1,4 +1,3 @@
-use borrow.Author.Rules.{rules}
 use mathlib.Core.Path.{sym, ◌∙◌}
 use Rattle.units.proofs.Widths.{units_length}
 use Rattle.loader_walk.proofs.units_of.Goals as goal

@@ -1,5 +1,5 @@
 -- `reading_print::put_knot` meets its contract.
-use Rattle.std.proofs.Common.{◌≡◌, ℕ, List, [], ◌∷◌, ◌++◌, ap, ◌∙◌, subst, ap₂, w16, w32, to_z, of_z, rules}
+use Rattle.std.proofs.Common.{◌≡◌, ℕ, List, [], ◌∷◌, ◌++◌, ap, ◌∙◌, subst, ap₂, w16, w32, to_z, of_z}
 use mir.ValLaws.{to_z-of_z}
 use Rattle.text.proofs.Laying.{Laid, laid_first, laid_more}
 use Rattle.reading_print.specs.Texts.{signed_text, number_text, knot_text}

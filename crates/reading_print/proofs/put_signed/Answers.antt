@@ -1,6 +1,5 @@
 -- `reading_print::put_signed` meets its contract.
 use Rattle.reading_print.proofs.Laying.{minus_laid, plain_laid}
-use Rattle.std.proofs.Common.{rules}
 use Rattle.reading_print.proofs.put_signed.Goals as goal
 
 pub returns-then-negative : goal.returns-then-negative

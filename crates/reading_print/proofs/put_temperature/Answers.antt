@@ -1,5 +1,5 @@
 -- `reading_print::put_temperature` meets its contract.
-use Rattle.std.proofs.Common.{ℕ, ◌+◌, ◌/◌, ◌%◌, Bool, List, [], ◌∷◌, ◌++◌, subst, ap₂, rules}
+use Rattle.std.proofs.Common.{ℕ, ◌+◌, ◌/◌, ◌%◌, Bool, List, [], ◌∷◌, ◌++◌, subst, ap₂}
 use Rattle.text.proofs.Laying.{Laid, laid_first, laid_more}
 use Rattle.reading_print.specs.Texts.{signed_text, temperature_text}
 use Rattle.reading_print.proofs.put_temperature.Goals as goal

@@ -1,4 +1,4 @@
-use Rattle.std.proofs.Common.{sym, ◌∙◌, rules}
+use Rattle.std.proofs.Common.{sym, ◌∙◌}
 use Rattle.reading_print.specs.Texts.{size_shown}
 use Rattle.reading_print.proofs.size_shown.Goals as goal
 

@@ -1,5 +1,4 @@
 use Rattle.reading_print.proofs.Shown.{shown_in, shown_none}
-use Rattle.std.proofs.Common.{rules}
 use Rattle.reading_print.proofs.tenths_shown.Goals as goal
 
 pub returns-then-u-lt4294967296 : goal.returns-then-u-lt4294967296

@@ -2,7 +2,6 @@
 use Rattle.text.specs.Digits.{decimal_of}
 use Rattle.text.specs.Writing.{bytes}
 use Rattle.text.proofs.Laying.{laid_first, laid_more}
-use borrow.Author.Rules.{rules}
 use Rattle.refusal_words.proofs.put_refused.Goals as goal
 
 pub returns : goal.returns

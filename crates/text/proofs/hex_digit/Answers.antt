@@ -1,7 +1,6 @@
 -- `text::hex_digit` meets its contract.
 use mathlib.Core.Path.{refl}
 use native.Mathlib.Omega.{arith}
-use borrow.Author.Rules.{rules}
 use borrow.Author.Tests.{lt-ltb, le-ltb}
 use Rattle.text.specs.Digits.{hex_of}
 use Rattle.text.proofs.hex_digit.Goals as goal

@@ -1,5 +1,4 @@
 -- `text::is_hex` meets its contract.
-use borrow.Author.Rules.{rules}
 use Rattle.text.specs.Digits.{is_hex}
 use Rattle.text.proofs.is_hex.Goals as goal
 

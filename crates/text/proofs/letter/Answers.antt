@@ -1,5 +1,4 @@
 -- `text::letter` meets its contract.
-use borrow.Author.Rules.{rules}
 use borrow.Author.Tests.{lt-ltb, le-ltb}
 use Rattle.text.specs.Digits.{digit_letter}
 use Rattle.text.proofs.letter.Goals as goal

@@ -1,6 +1,5 @@
 -- `text::put` meets its contract.
 use mathlib.Core.Path.{sym}
-use borrow.Author.Rules.{rules}
 use lib.Seq.{set_out}
 use Rattle.text.proofs.put.Goals as goal
 

@@ -4,7 +4,6 @@ use mathlib.Core.List.{List}
 use Prim.Native.Nat.{ℕ, ◌-◌, ◌≤◌}
 use native.Mathlib.Omega.{arith}
 use lib.ListN.{take, drop}
-use borrow.Author.Rules.{rules}
 use Rattle.text.specs.Writing.{laid_at, behind}
 use Rattle.text.proofs.Spelling.{width_some, decimal_last}
 use Rattle.text.proofs.put_decimal.Goals as goal

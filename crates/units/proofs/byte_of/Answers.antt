@@ -1,5 +1,4 @@
 use Rattle.units.proofs.Widths.{true_bytes}
-use borrow.Author.Rules.{rules}
 use Rattle.units.proofs.byte_of.Goals as goal
 
 pub first_byte-a-requires : goal.first_byte-a-requires

@@ -1,5 +1,4 @@
 use Rattle.units.proofs.Widths.{true_bytes}
-use borrow.Author.Rules.{rules}
 use Rattle.units.proofs.bytes_in.Goals as goal
 
 pub overflow_mul-result : goal.overflow_mul-result

@@ -1,4 +1,3 @@
-use borrow.Author.Rules.{rules}
 use Rattle.units.proofs.carry.Goals as goal
 
 pub returns : goal.returns

@@ -1,5 +1,4 @@
 use Rattle.units.proofs.Spread.{filled}
-use borrow.Author.Rules.{rules}
 use Rattle.units.proofs.erase_part.Goals as goal
 
 pub returns : goal.returns

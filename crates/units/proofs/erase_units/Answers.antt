@@ -1,7 +1,6 @@
 use mathlib.Core.Path.{refl, sym, ◌∙◌}
 use Rattle.units.specs.Units.{units}
 use Rattle.units.proofs.Widths.{there, there_if, erased_there, erased_past}
-use borrow.Author.Rules.{rules}
 use Rattle.units.proofs.erase_units.Goals as goal
 
 pub erase_there-requires : goal.erase_there-requires

@@ -1,5 +1,4 @@
 use Rattle.units.proofs.Widths.{fill_law}
-use borrow.Author.Rules.{rules}
 use Rattle.units.proofs.fill_units.Goals as goal
 
 pub returns : goal.returns

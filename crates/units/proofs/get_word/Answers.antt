@@ -1,5 +1,4 @@
 use Rattle.units.proofs.Words.{get_law, get_past}
-use borrow.Author.Rules.{rules}
 use native.Mathlib.Omega.{arith}
 use mathlib.Core.Path.{sym}
 use Rattle.units.proofs.get_word.Goals as goal

@@ -1,5 +1,4 @@
 use Rattle.units.proofs.Spread.{laid_over}
-use borrow.Author.Rules.{rules}
 use Rattle.units.proofs.leave_part.Goals as goal
 
 pub returns : goal.returns

@@ -3,7 +3,6 @@ use mathlib.Core.List.{List}
 use mathlib.Core.Path.{ap, ◌∙◌}
 use Rattle.units.specs.Units.{units, spare}
 use Rattle.units.proofs.Widths.{fit_by, in_law, one_law, leave_law, leave_spare}
-use borrow.Author.Rules.{rules}
 use native.Mathlib.Omega.{arith}
 use Rattle.units.proofs.leave_there.Goals as goal
 

@@ -1,7 +1,6 @@
 use mathlib.Core.Path.{refl, sym, ◌∙◌}
 use Rattle.units.specs.Units.{units}
 use Rattle.units.proofs.Widths.{both_there, residue_if, left_there, left_past}
-use borrow.Author.Rules.{rules}
 use Rattle.units.proofs.leave_units.Goals as goal
 
 pub leave_there-requires : goal.leave_there-requires

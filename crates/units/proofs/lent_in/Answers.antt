@@ -1,4 +1,3 @@
-use borrow.Author.Rules.{rules}
 use mathlib.Core.Path.{sym, ◌∙◌}
 use Rattle.units.specs.Units.{lent_in}
 use Rattle.units.proofs.lent_in.Goals as goal

@@ -1,5 +1,4 @@
 use Rattle.units.proofs.Widths.{word_in, byte_in, program_low}
-use borrow.Author.Rules.{rules}
 use mathlib.Core.Path.{refl}
 use Rattle.units.proofs.program_there.Goals as goal
 

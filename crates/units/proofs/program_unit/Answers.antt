@@ -4,7 +4,6 @@ use lib.Seq.{set_out}
 use mathlib.Core.Path.{refl, sym}
 use Rattle.units.specs.Units.{units}
 use Rattle.units.proofs.Widths.{units_length}
-use borrow.Author.Rules.{rules}
 use native.Mathlib.Omega.{arith}
 use Rattle.units.proofs.program_unit.Goals as goal
 

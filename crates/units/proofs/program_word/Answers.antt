@@ -1,6 +1,5 @@
 use Rattle.units.proofs.Words.{program_law}
 use Rattle.units.proofs.Widths.{both_in}
-use borrow.Author.Rules.{rules}
 use native.Mathlib.Omega.{arith}
 use Rattle.units.proofs.program_word.Goals as goal
 

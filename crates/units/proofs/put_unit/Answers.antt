@@ -1,7 +1,6 @@
 use Prim.Native.Nat.{ℕ}
 use mathlib.Core.Path.{ap, refl, ◌∙◌}
 use lib.ListN.{set}
-use borrow.Author.Rules.{rules}
 use Rattle.units.proofs.put_unit.Goals as goal
 
 pub returns-then-word : goal.returns-then-word

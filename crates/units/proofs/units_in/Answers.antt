@@ -1,4 +1,3 @@
-use borrow.Author.Rules.{rules}
 use Rattle.units.proofs.units_in.Goals as goal
 
 pub returns-then-word : goal.returns-then-word

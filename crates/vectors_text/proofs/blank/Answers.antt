@@ -1,6 +1,13 @@
 -- `vectors_text::blank` meets its contract.
-use mathlib.Core.Path.{refl}
+use mathlib.Core.Path.{◌≡◌, refl, sym, ap, ◌∙◌}
+use mathlib.Core.List.{List}
+use Prim.Native.Nat.{ℕ}
+use lib.ListN.{length, replicate, length-replicate}
 use Rattle.vectors_text.proofs.blank.Goals as goal
 
+-- a list of n zeros is n long
+zeros : (n : ℕ) (r : List ℕ) → r ≡ replicate n 0 → (r ≡ replicate n 0) × (n ≡ length r)
+zeros n r e = (e, sym (ap length e ∙ length-replicate n 0))
+
 pub returns : goal.returns
-returns c = (refl, refl)
+returns c = zeros 131073 _ refl

@@ -1,9 +1,8 @@
 -- `vectors_text::digest` meets its contract: what is left to go through gives the digest of all.
 use mathlib.Core.Path.{◌≡◌, refl, sym, ap, ◌∙◌}
-use Prim.Native.Nat.{ℕ, ◌+◌, ◌*◌, ◌-◌, ◌%◌, ◌≤◌, ◌<◌}
+use Prim.Native.Nat.{ℕ, ◌+◌, ◌*◌, ◌-◌, ◌%◌}
 use native.Mathlib.Omega.{arith}
-use borrow.Author.Rules.{rules}
-use lib.ListN.{length, get_or, drop}
+use lib.ListN.{get_or, drop}
 use Rattle.vectors_text.specs.Text.{walk}
 use Rattle.vectors_text.proofs.Text.{walk_next, walk_end}
 use Rattle.vectors_text.specs.Patterns.{digest_more, digest_of}

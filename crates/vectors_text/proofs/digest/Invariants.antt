@@ -1,12 +1,9 @@
 -- `vectors_text::digest` meets its contract: what is left to go through gives the digest of all.
-use mathlib.Core.Path.{◌≡◌, refl, sym, ap, ◌∙◌}
-use Prim.Native.Nat.{ℕ, ◌+◌, ◌*◌, ◌-◌, ◌%◌, ◌≤◌, ◌<◌}
-use native.Mathlib.Omega.{arith}
-use borrow.Author.Rules.{rules}
-use lib.ListN.{length, get_or, drop}
+use mathlib.Core.Path.{◌≡◌}
+use Prim.Native.Nat.{◌-◌, ◌≤◌, ◌<◌}
+use lib.ListN.{length, drop}
 use Rattle.vectors_text.specs.Text.{walk}
-use Rattle.vectors_text.proofs.Text.{walk_next, walk_end}
-use Rattle.vectors_text.specs.Patterns.{digest_more, digest_of}
+use Rattle.vectors_text.specs.Patterns.{digest_more}
 use Rattle.vectors_text.proofs.digest.Given as goal
 
 abbrev pub invariant-loop-i : goal.invariant-loop-i

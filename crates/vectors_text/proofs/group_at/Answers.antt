@@ -1,5 +1,4 @@
 -- `vectors_text::group_at` meets its contract.
-use borrow.Author.Rules.{rules}
 use Rattle.vectors_text.specs.Text.{group_at}
 use Rattle.vectors_text.proofs.group_at.Goals as goal
 

@@ -1,12 +1,8 @@
 -- `vectors_text::number` meets its contract: what is left to read gives what was to be read.
-use mathlib.Core.Path.{◌≡◌, refl, sym, ap, ◌∙◌}
-use Prim.Native.Nat.{ℕ, ◌+◌, ◌*◌, ◌-◌, ◌%◌, ◌≤◌, ◌<◌}
-use native.Mathlib.Omega.{arith}
-use native.Mathlib.Nat.{mul-le-mul_right}
-use borrow.Author.Rules.{rules}
-use lib.ListN.{length, get_or, drop}
-use Rattle.vectors_text.specs.Text.{walk, digit_read, digit_more, number_read}
-use Rattle.vectors_text.proofs.Text.{walk_next, walk_end}
+use mathlib.Core.Path.{◌≡◌}
+use Prim.Native.Nat.{◌-◌, ◌≤◌, ◌<◌}
+use lib.ListN.{length, drop}
+use Rattle.vectors_text.specs.Text.{walk, digit_more}
 use Rattle.vectors_text.proofs.number.Given as goal
 
 abbrev pub invariant-loop-i : goal.invariant-loop-i

@@ -1,10 +1,10 @@
 -- `pattern` meets its contract: after i rounds the first i bytes are the pattern's, which goes on from v.
 use mathlib.Core.Path.{◌≡◌, refl, sym, ap, ◌∙◌}
 use mathlib.Core.List.{List}
-use Prim.Native.Nat.{ℕ, ◌+◌, ◌-◌, ◌%◌, ◌≤◌, ◌<◌}
+use Prim.Native.Nat.{ℕ, ◌+◌, ◌-◌, ◌%◌, ◌<◌}
 use native.Mathlib.Omega.{arith}
 use native.Mathlib.Nat.{mod-lt}
-use lib.ListN.{length, drop, set, length-set}
+use lib.ListN.{length, set, length-set}
 use Rattle.common.specs.Lists.{overwritten}
 use Rattle.common.proofs.Lists.{overwritten_more, overwritten_all}
 use Rattle.vectors_text.specs.Patterns.{pattern_of, pattern_from}

@@ -1,14 +1,9 @@
 -- `pattern` meets its contract: after i rounds the first i bytes are the pattern's, which goes on from v.
-use mathlib.Core.Path.{◌≡◌, refl, sym, ap, ◌∙◌}
-use mathlib.Core.List.{List}
-use Prim.Native.Nat.{ℕ, ◌+◌, ◌-◌, ◌%◌, ◌≤◌, ◌<◌}
-use native.Mathlib.Omega.{arith}
-use native.Mathlib.Nat.{mod-lt}
-use lib.ListN.{length, drop, set, length-set}
+use mathlib.Core.Path.{◌≡◌}
+use Prim.Native.Nat.{◌-◌, ◌≤◌, ◌<◌}
+use lib.ListN.{length, drop}
 use Rattle.common.specs.Lists.{overwritten}
-use Rattle.common.proofs.Lists.{overwritten_more, overwritten_all}
-use Rattle.vectors_text.specs.Patterns.{pattern_of, pattern_from}
-use Rattle.vectors_text.proofs.Patterns.{pattern_length, pattern_byte, pattern_next}
+use Rattle.vectors_text.specs.Patterns.{pattern_from}
 use Rattle.vectors_text.proofs.pattern.Given as goal
 
 abbrev pub invariant-loop-i : goal.invariant-loop-i

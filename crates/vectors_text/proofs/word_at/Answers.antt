@@ -2,7 +2,6 @@
 use mathlib.Core.Path.{ap, ◌∙◌}
 use mathlib.Core.List.{List}
 use Prim.Native.Nat.{ℕ}
-use borrow.Author.Rules.{rules}
 use Rattle.vectors_text.specs.Text.{number_read}
 use Rattle.vectors_text.proofs.Text.{field_part}
 use Rattle.vectors_text.proofs.word_at.Goals as goal

@@ -1,7 +1,6 @@
 -- `vectors_text::worth` meets its contract.
 use mathlib.Core.Path.{sym, ◌∙◌}
 use native.Mathlib.Omega.{arith}
-use borrow.Author.Rules.{rules}
 use Rattle.vectors_text.specs.Text.{digit_read}
 use Rattle.vectors_text.proofs.worth.Goals as goal
 

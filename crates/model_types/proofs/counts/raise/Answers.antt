@@ -1,4 +1,3 @@
-use borrow.Author.Rules.{rules}
 use borrow.Author.Tests.{lt-ltb, le-ltb}
 use Rattle.model_types.specs.Counts.{raised}
 use Rattle.model_types.proofs.counts.raise.Goals as goal

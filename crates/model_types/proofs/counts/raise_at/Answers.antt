@@ -1,4 +1,3 @@
-use borrow.Author.Rules.{rules}
 use borrow.Author.Tests.{eq-eqb, ne_eqb}
 use Rattle.model_types.specs.Counts.{raised_at}
 use Rattle.model_types.proofs.counts.raise_at.Reads as reads

@@ -1,4 +1,3 @@
-use borrow.Author.Rules.{rules}
 use Rattle.model_types.proofs.counts.wear_out.Reads as reads
 use Rattle.model_types.proofs.counts.wear_out.Lts as lts
 use Rattle.model_types.proofs.counts.raise_at.Reads as raise-at-reads

@@ -1,0 +1,15 @@
+-- `file_codec::blocks_number` meets its contract: the blocks passed are right, so the rest decides.
+use mathlib.Core.Path.{◌≡◌}
+use mathlib.Core.List.{[]}
+use Prim.Native.Nat.{◌≤◌, ◌-◌, ◌*◌}
+use lib.ListN.{get_or, drop}
+use Rattle.common.specs.Numbers.{given}
+use Rattle.file_codec.specs.File.{blocks_rows}
+use Rattle.file_codec.proofs.blocks_number.Given as goal
+
+abbrev pub invariant-loop-i : goal.invariant-loop-i
+invariant-loop-i l =
+    (l.i ≤ l.n) × (given (blocks_rows (l.n - l.i) l.first l.i l.n (drop (512 * l.i) l.file) []) ≡ given (blocks_rows l.n (get_or l.file 0 0) 0 l.n l.file []))
+
+abbrev pub decreases-loop-i : goal.decreases-loop-i
+decreases-loop-i l = l.n - l.i
