@@ -1,8 +1,7 @@
 -- What a cycle answers, in numbers, by the state that it leaves. None of this is part of what a buyer must believe: the answer is the
 -- cycle's own, whichever way it goes.
-use Rattle.std.specs.Prelude.{ℕ, eqb}
+use Rattle.std.specs.Prelude.{ℕ, eqb, if◌then◌else◌}
 use Rattle.std.specs.Int.Bits.{bit_and, bit_or}
-use Rattle.common.specs.Choice.{if◌then◌else◌}
 use Rattle.model_types.specs.Counts.{worn}
 use Rattle.c_cycle.specs.Values.{wear_in, wear_out}
 use Rattle.c_cycle.specs.declared.StateNumbers.{StateNumbers}

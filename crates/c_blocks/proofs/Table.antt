@@ -5,7 +5,7 @@ use Prim.Native.Nat.{ℕ, zero, suc, ◌<◌}
 use native.Mathlib.Omega.{arith}
 use lib.Dec.{eqb}
 use borrow.Author.Tests.{ne_eqb, lt-ltb}
-use Rattle.common.specs.Choice.{if◌then◌else◌}
+use Rattle.std.specs.Prelude.{if◌then◌else◌}
 use Rattle.device.specs.declared.Part.{Part}
 use Rattle.device.specs.declared.Span.{Span}
 use Rattle.device.specs.Parts.{row_of, shape_of, is_large, unknown_part, size_in, length_in, offset_in, start_in, length_of, start_of}

@@ -1,7 +1,6 @@
 -- Where the blocks of the parts lie, as a table. None of this is part of what a buyer must believe: that the parts' descriptions give the
 -- same is proved (`blocks_are`).
-use Rattle.std.specs.Prelude.{ℕ, eqb}
-use Rattle.common.specs.Choice.{if◌then◌else◌}
+use Rattle.std.specs.Prelude.{ℕ, eqb, if◌then◌else◌}
 use Rattle.device.specs.declared.Span.{Span}
 
 -- a block by its first address and length

@@ -1,6 +1,5 @@
 -- What a cycle answers, as plain numbers.
-use Rattle.std.specs.Prelude.{List, ℕ}
-use Rattle.common.specs.Choice.{if◌then◌else◌}
+use Rattle.std.specs.Prelude.{List, ℕ, if◌then◌else◌}
 use Rattle.units.specs.Units.{units, lent}
 use Rattle.model_types.specs.declared.State.{State}
 use Rattle.model.specs.declared.Seen.{Seen}

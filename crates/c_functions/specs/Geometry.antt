@@ -1,6 +1,5 @@
 -- Where a part's blocks lie, as numbers.
-use Rattle.std.specs.Prelude.{false, ℕ}
-use Rattle.common.specs.Choice.{if◌then◌else◌}
+use Rattle.std.specs.Prelude.{false, ℕ, if◌then◌else◌}
 use Rattle.device.specs.declared.Part.{Part}
 use Rattle.device.specs.Parts.{unknown_part, size_of, start_of, length_of}
 use Rattle.loader_steps.specs.Front.{no_block}

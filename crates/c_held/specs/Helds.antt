@@ -1,6 +1,5 @@
 -- A load that may be interrupted, as plain numbers: its records, and what its start, its step and its run give.
-use Rattle.std.specs.Prelude.{Bool, not, ◌||◌, List, ℕ, length, eqb, ltb}
-use Rattle.common.specs.Choice.{if◌then◌else◌}
+use Rattle.std.specs.Prelude.{Bool, not, ◌||◌, List, ℕ, length, eqb, ltb, if◌then◌else◌}
 use Rattle.units.specs.Units.{lent}
 use Rattle.loader_held.specs.declared.Step.{Step}
 use Rattle.loader_held.specs.declared.Step.TheVariants.{Usual, Halting, Looking, Settling, ArrayAsking, Fetching, Resuming}

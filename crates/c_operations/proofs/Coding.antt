@@ -5,7 +5,7 @@ use mathlib.Core.List.{List}
 use Prim.Native.Nat.{ℕ}
 use lib.ListN.{length}
 use lib.Dec.{ltb}
-use Rattle.common.specs.Choice.{if◌then◌else◌}
+use Rattle.std.specs.Prelude.{if◌then◌else◌}
 use Rattle.model_rules.specs.Cycles.{code_place, identifier_of}
 use Rattle.c_cycle.specs.Values.{device_in}
 use Rattle.c_cycle.specs.declared.DeviceNumbers.{DeviceNumbers}

@@ -8,7 +8,7 @@ use lib.Dec.{eqb, ltb, leb}
 use lib.Bits.{bit_and, bit_or}
 use native.Mathlib.Omega.{arith}
 use borrow.Author.Tests.{eq-eqb, lt-ltb, le-ltb, le-leb}
-use Rattle.common.specs.Choice.{if◌then◌else◌}
+use Rattle.std.specs.Prelude.{if◌then◌else◌}
 use Rattle.common.proofs.Choice.{if_true, if_false, and_none}
 use Rattle.units.specs.Units.{units, lent_in, units_in, left_in}
 use Rattle.units.proofs.Widths.{left_there}

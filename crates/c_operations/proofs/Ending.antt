@@ -8,7 +8,7 @@ use lib.ListN.{length, get_or, set}
 use lib.Dec.{eqb, ltb}
 use lib.Bits.{bit_and, bit_or}
 use borrow.Author.Tests.{eqb-true, eqb-false, eq-eqb, lt-ltb}
-use Rattle.common.specs.Choice.{if◌then◌else◌}
+use Rattle.std.specs.Prelude.{if◌then◌else◌}
 use Rattle.common.specs.Lists.{Bytes}
 use Rattle.common.proofs.Choice.{if_true, if_false}
 use Rattle.units.specs.Units.{units, spare, lent_in, units_in, erased_in}

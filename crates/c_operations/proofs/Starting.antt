@@ -10,7 +10,7 @@ use lib.Bits.{bit_and, bit_or}
 use borrow.Author.Tests.{eq-eqb, ne_eqb, le-ltb}
 use Rattle.common.proofs.Choice.{if_false, and_none}
 use Rattle.units.specs.Units.{carried}
-use Rattle.common.specs.Choice.{if◌then◌else◌}
+use Rattle.std.specs.Prelude.{if◌then◌else◌}
 use Rattle.device.specs.Blocks.{holder}
 use Rattle.device.specs.Parts.{shape_of, lengths_of, size_in, mirrored, holder_in, block_in, block_of}
 use Rattle.device.specs.declared.Part.{Part}

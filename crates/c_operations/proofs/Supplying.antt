@@ -5,7 +5,7 @@ use Prim.Native.Nat.{ℕ, ◌≤◌, ◌<◌}
 use native.Mathlib.Omega.{arith}
 use lib.Dec.{eqb, ltb, leb}
 use borrow.Author.Tests.{leb-true, leb-false, le-leb, lt-leb, not-false}
-use Rattle.common.specs.Choice.{if◌then◌else◌}
+use Rattle.std.specs.Prelude.{if◌then◌else◌}
 use Rattle.common.proofs.Choice.{if_same, if_false, and_left, and_right, or_left, or_right, unlike}
 use Rattle.device.specs.Parts.{is_large, unknown_part, size_of}
 use Rattle.model_levels.specs.Levels.{vpp_low, vpp_high, at_twelve, at_five, bad_wp, bad_pins}

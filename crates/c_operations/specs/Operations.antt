@@ -1,7 +1,6 @@
 -- A cycle while an operation is awaited, running or suspended, in numbers. None of this is part of what a buyer must believe: the answer
 -- is the cycle's own, whichever way it goes.
-use Rattle.std.specs.Prelude.{◌≡◌, Bool, true, false, ◌&&◌, ℕ, ◌/◌, ◌%◌, ◌≤◌, ◌<◌, eqb, ltb, leb}
-use Rattle.common.specs.Choice.{if◌then◌else◌}
+use Rattle.std.specs.Prelude.{◌≡◌, Bool, true, false, ◌&&◌, ℕ, ◌/◌, ◌%◌, ◌≤◌, ◌<◌, eqb, ltb, leb, if◌then◌else◌}
 use Rattle.device.specs.declared.Part.{Part}
 use Rattle.device.specs.Parts.{size_of}
 use Rattle.model_types.specs.declared.Phase.{Phase}

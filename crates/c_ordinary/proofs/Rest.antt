@@ -8,7 +8,7 @@ use lib.ListN.{length, get_or}
 use lib.Dec.{eqb, ltb, leb}
 use lib.Bits.{bit_and}
 use borrow.Author.Tests.{eqb-true, eqb-false, not-true, not-false, le-ltb}
-use Rattle.common.specs.Choice.{if◌then◌else◌}
+use Rattle.std.specs.Prelude.{if◌then◌else◌}
 use Rattle.common.specs.Lists.{Bytes}
 use Rattle.common.proofs.Choice.{if_true, if_false, if_ind, and_left, and_right, and_none, unlike}
 use Rattle.units.specs.Units.{units, spare, lent, lent_in, units_in}

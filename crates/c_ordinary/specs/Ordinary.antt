@@ -1,8 +1,7 @@
 -- A bus cycle in numbers, and what makes one ordinary. What is ordinary is not part of what a buyer must believe: the answer is the cycle's
 -- own, whichever way it goes.
-use Rattle.std.specs.Prelude.{◌≡◌, Bool, true, false, not, ◌&&◌, ℕ, ◌+◌, ◌-◌, ◌*◌, ◌/◌, ◌%◌, ◌≤◌, ◌<◌, eqb, ltb, leb}
+use Rattle.std.specs.Prelude.{◌≡◌, Bool, true, false, not, ◌&&◌, ℕ, ◌+◌, ◌-◌, ◌*◌, ◌/◌, ◌%◌, ◌≤◌, ◌<◌, eqb, ltb, leb, if◌then◌else◌}
 use Rattle.std.specs.Int.Bits.{bit_and}
-use Rattle.common.specs.Choice.{if◌then◌else◌}
 use Rattle.units.specs.Units.{lent_in}
 use Rattle.device.specs.Parts.{unknown_device, size_of}
 use Rattle.model_levels.specs.Levels.{bad_pins}

@@ -1,6 +1,5 @@
 -- Recordings as plain numbers: the records, and what the check of them answers.
-use Rattle.std.specs.Prelude.{List, [], ◌∷◌, ℕ, eqb, ltb}
-use Rattle.common.specs.Choice.{if◌then◌else◌}
+use Rattle.std.specs.Prelude.{List, [], ◌∷◌, ℕ, eqb, ltb, if◌then◌else◌}
 use Rattle.recording.specs.declared.Heard.{Heard}
 use Rattle.recording.specs.declared.Heard.TheVariants.{Silence, Told}
 use Rattle.recording.specs.declared.Noted.{Noted}

@@ -7,7 +7,7 @@ use lib.ListN.{length}
 use lib.Dec.{eqb}
 use Rattle.common.specs.Numbers.{NoRow, end, past}
 use Rattle.common.proofs.Numbers.{no_row_given}
-use Rattle.common.specs.Choice.{if◌then◌else◌}
+use Rattle.std.specs.Prelude.{if◌then◌else◌}
 use Rattle.common.proofs.Choice.{if_false}
 use Rattle.device.specs.declared.Part.{Part}
 use Rattle.device.specs.declared.Span.{Span}

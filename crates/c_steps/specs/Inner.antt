@@ -1,6 +1,5 @@
 -- What only the code's shape asks for: a step that goes on, told in numbers. w is what is wanted, in units.
-use Rattle.std.specs.Prelude.{◌≡◌, Bool, true, false, List, ℕ, ◌+◌, get_or}
-use Rattle.common.specs.Choice.{if◌then◌else◌}
+use Rattle.std.specs.Prelude.{◌≡◌, Bool, true, false, List, ℕ, ◌+◌, get_or, if◌then◌else◌}
 use Rattle.model_types.specs.declared.Kind.{Kind}
 use Rattle.loader.specs.declared.Work.{Work}
 use Rattle.loader.specs.declared.Work.TheVariants.{Load, Verify}

@@ -3,8 +3,7 @@
 // that is sufficient and no more: what fails it is judged by the rules, and by them alone.
 #![tactic(auto)]
 
-ghost use Rattle.std.specs.Prelude.{◌≡◌, true, false, List, ℕ, ◌+◌, ◌*◌, ◌%◌, ◌≤◌, ◌<◌, eqb, length, get_or, set};
-ghost use Rattle.common.specs.Choice.{if◌then◌else◌};
+ghost use Rattle.std.specs.Prelude.{◌≡◌, true, false, List, ℕ, ◌+◌, ◌*◌, ◌%◌, ◌≤◌, ◌<◌, eqb, length, get_or, set, if◌then◌else◌};
 ghost use Rattle.device.specs.declared.Part.{Part};
 ghost use Rattle.device.specs.Inner.{span_of};
 ghost use Rattle.c_cycle.specs.Values.{pins_in};

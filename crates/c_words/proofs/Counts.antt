@@ -8,7 +8,7 @@ use lib.Dec.{eqb, leb, ltb}
 use lib.ListN.{length, take, drop}
 use lib.Seq.{length-take-le, take-append-le}
 use borrow.Author.Tests.{leb-true, le-leb, lt-leb}
-use Rattle.common.specs.Choice.{if◌then◌else◌}
+use Rattle.std.specs.Prelude.{if◌then◌else◌}
 use Rattle.common.proofs.Choice.{if_true, if_false}
 use Rattle.text.specs.Writing.{laid_at, behind}
 use Rattle.text.proofs.Laying.{laid_whole}

@@ -1,7 +1,6 @@
 -- A knot of a table's payload as numbers, each way: reading_table says what six bytes mean, reading_text which they are.
-use Rattle.std.specs.Prelude.{Bool, ◌&&◌, List, ℕ, ◌-◌, ◌*◌, ◌/◌, eqb, leb, ltb, ℤ, pos, negsuc, length}
+use Rattle.std.specs.Prelude.{Bool, ◌&&◌, List, ℕ, ◌-◌, ◌*◌, ◌/◌, eqb, leb, ltb, ℤ, pos, negsuc, length, if◌then◌else◌}
 use Rattle.std.specs.Int.Signed.{le_z}
-use Rattle.common.specs.Choice.{if◌then◌else◌}
 use Rattle.common.specs.Lists.{overlaid}
 use Rattle.reading_table.specs.Table.{volts_of, tenths_of, in_range}
 use Rattle.reading_text.specs.Tables.{six_of}

@@ -1,6 +1,5 @@
 -- The words of every number that is given back, and where they are left.
-use Rattle.std.specs.Prelude.{List, [], ◌∷◌, ◌++◌, ℕ, ◌-◌, eqb, leb, ltb, length, take}
-use Rattle.common.specs.Choice.{if◌then◌else◌}
+use Rattle.std.specs.Prelude.{List, [], ◌∷◌, ◌++◌, ℕ, ◌-◌, eqb, leb, ltb, length, take, if◌then◌else◌}
 use Rattle.text.specs.Writing.{bytes, laid_at}
 use Rattle.refusal_words.specs.Words.{file_words}
 

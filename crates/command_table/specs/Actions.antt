@@ -1,6 +1,5 @@
 -- What the table's rows and action numbers stand for, and what it is for an entry to follow its rule.
-use Rattle.std.specs.Prelude.{Bool, true, false, ◌&&◌, List, [], ◌∷◌, ℕ, suc, ◌+◌, ◌*◌, ◌/◌, ◌%◌, eqb, ltb, length, get_or}
-use Rattle.common.specs.Choice.{if◌then◌else◌}
+use Rattle.std.specs.Prelude.{Bool, true, false, ◌&&◌, List, [], ◌∷◌, ℕ, suc, ◌+◌, ◌*◌, ◌/◌, ◌%◌, eqb, ltb, length, get_or, if◌then◌else◌}
 use Rattle.device.specs.Parts.{is_large}
 use Rattle.device.specs.declared.Part.{Part}
 use Rattle.model_types.specs.declared.Phase.{Phase}

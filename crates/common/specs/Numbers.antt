@@ -1,6 +1,5 @@
 -- A table of refusals: rows in the order in which they are tested, each a number with its own condition.
-use Rattle.std.specs.Prelude.{◌≡◌, Bool, true, false, List, [], ◌∷◌, ℕ, eqb}
-use Rattle.common.specs.Choice.{if◌then◌else◌}
+use Rattle.std.specs.Prelude.{◌≡◌, Bool, true, false, List, [], ◌∷◌, ℕ, eqb, if◌then◌else◌}
 
 -- a number, and whether its condition, taken alone, holds
 pub record Row : Type 0 where

@@ -4,7 +4,7 @@ use mathlib.Core.Bool.{Bool, true, false}
 use Prim.Native.Nat.{ℕ, ◌+◌, ◌-◌, ◌≤◌, ◌<◌}
 use native.Mathlib.Omega.{arith}
 use lib.Dec.{eqb, lit≤}
-use Rattle.common.specs.Choice.{if◌then◌else◌}
+use Rattle.std.specs.Prelude.{if◌then◌else◌}
 use Rattle.common.proofs.Choice.{if_ind}
 use Rattle.device.specs.Blocks.{units_of_all, length_at, offset_at, holder, Lies}
 use Rattle.device.specs.Parts.{four_blocks, more_blocks, row_of, in_words, shape_of, lengths_of, size_in, length_in, offset_in, holder_in, mirrored, start_in, block_in, Holds, size_of}

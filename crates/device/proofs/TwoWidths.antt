@@ -6,7 +6,7 @@ use Prim.Native.Nat.{ℕ, zero, suc, ◌+◌, ◌-◌, ◌*◌, ◌≤◌, ◌<�
 use native.Mathlib.Omega.{arith}
 use lib.Dec.{eqb, ltb}
 use borrow.Author.Tests.{lt-ltb, le-ltb, ltb-true, ltb-false}
-use Rattle.common.specs.Choice.{if◌then◌else◌}
+use Rattle.std.specs.Prelude.{if◌then◌else◌}
 use Rattle.common.proofs.Choice.{if_ind}
 use Rattle.device.specs.Blocks.{units_of_all, length_at, offset_at, holder}
 use Rattle.device.specs.Parts.{four_blocks, more_blocks, row_of, in_words, shape_of, lengths_of, size_in, length_in, offset_in, holder_in, mirrored, start_in, block_in, size_of, length_of, start_of, block_of}

@@ -1,6 +1,5 @@
 -- Flash blocks as a list of lengths, counted outward from the boot block.
-use Rattle.std.specs.Prelude.{List, [], ◌∷◌, ℕ, zero, suc, ◌+◌, ◌-◌, ◌≤◌, ◌<◌, get_or, ltb}
-use Rattle.common.specs.Choice.{if◌then◌else◌}
+use Rattle.std.specs.Prelude.{List, [], ◌∷◌, ℕ, zero, suc, ◌+◌, ◌-◌, ◌≤◌, ◌<◌, get_or, ltb, if◌then◌else◌}
 
 -- the units of all blocks together
 abbrev pub units_of_all : List ℕ → ℕ

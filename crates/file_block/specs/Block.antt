@@ -1,6 +1,5 @@
 -- One block of a load file: what is wrong with it.
-use Rattle.std.specs.Prelude.{List, [], ◌∷◌, Bool, true, false, not, ◌||◌, ℕ, ◌+◌, ◌-◌, get_or, take, drop, length, eqb, ltb}
-use Rattle.common.specs.Choice.{if◌then◌else◌}
+use Rattle.std.specs.Prelude.{List, [], ◌∷◌, Bool, true, false, not, ◌||◌, ℕ, ◌+◌, ◌-◌, get_or, take, drop, length, eqb, ltb, if◌then◌else◌}
 use Rattle.common.specs.Numbers.{Row, row, given}
 use Rattle.file_check.specs.Check.{is_blank, is_damaged, all_are, pair}
 

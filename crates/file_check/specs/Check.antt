@@ -1,6 +1,5 @@
 -- The check of a block, a blank block, and numbers of two bytes.
-use Rattle.std.specs.Prelude.{List, [], ◌∷◌, Bool, true, false, not, ℕ, suc, ◌+◌, ◌*◌, ◌%◌, length, get_or, take, eqb}
-use Rattle.common.specs.Choice.{if◌then◌else◌}
+use Rattle.std.specs.Prelude.{List, [], ◌∷◌, Bool, true, false, not, ℕ, suc, ◌+◌, ◌*◌, ◌%◌, length, get_or, take, eqb, if◌then◌else◌}
 use Rattle.common.specs.Numbers.{row, given}
 
 -- k times the first byte, k + 1 times the next, and so on, added up

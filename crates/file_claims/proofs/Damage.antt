@@ -9,7 +9,7 @@ use lib.ListN.{length, get_or, take, drop, set, length-set, length-drop}
 use lib.Seq.{length-take-le, take-set-lt, take-set-le, drop-set-add, get_or-set_same, get_or-set_other, get_or-take, get_or-drop}
 use lib.Dec.{eqb, ltb}
 use borrow.Author.Tests.{ne_eqb, eqb-true, eqb-false, ltb-true, ltb-false, not-false}
-use Rattle.common.specs.Choice.{if◌then◌else◌}
+use Rattle.std.specs.Prelude.{if◌then◌else◌}
 use Rattle.common.proofs.Choice.{if_true, if_false, unlike}
 use Rattle.common.specs.Numbers.{given}
 use Rattle.file_check.specs.Check.{wsum, check_of, check_wrong, stored_of, is_blank, is_damaged, pair}

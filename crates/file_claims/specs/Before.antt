@@ -1,6 +1,5 @@
 -- The reader as it was while a blank block had no number of its own.
-use Rattle.std.specs.Prelude.{List, [], ◌∷◌, not, ◌||◌, ℕ, zero, suc, ◌+◌, length, get_or, take, drop, eqb}
-use Rattle.common.specs.Choice.{if◌then◌else◌}
+use Rattle.std.specs.Prelude.{List, [], ◌∷◌, not, ◌||◌, ℕ, zero, suc, ◌+◌, length, get_or, take, drop, eqb, if◌then◌else◌}
 use Rattle.common.specs.Numbers.{Row, row, given}
 use Rattle.file_check.specs.Check.{check_wrong}
 use Rattle.file_block.specs.Block.{letter_wrong, place_wrong, used_wrong, padding_wrong}

@@ -1,6 +1,5 @@
 -- What is said of a load into an image of a part: the words of the call, the run itself, and its end in words.
-use Rattle.std.specs.Prelude.{Bool, false, not, ◌||◌, true, List, [], ◌++◌, ℕ, ◌+◌, ◌-◌, ◌*◌, ◌/◌, min, eqb, ltb, length, get_or, take, drop}
-use Rattle.common.specs.Choice.{if◌then◌else◌}
+use Rattle.std.specs.Prelude.{Bool, false, not, ◌||◌, true, List, [], ◌++◌, ℕ, ◌+◌, ◌-◌, ◌*◌, ◌/◌, min, eqb, ltb, length, get_or, take, drop, if◌then◌else◌}
 use Rattle.text.specs.Digits.{spelled, decimal_of}
 use Rattle.text.specs.Writing.{bytes, behind}
 use Rattle.trace_lines.specs.Lines.{four_hex}

@@ -1,6 +1,5 @@
 -- What a status says of an operation that is waited for: whether it is over, and how it ended.
-use Rattle.std.specs.Prelude.{Bool, ◌&&◌, ℕ, ◌/◌, ◌%◌, eqb, leb}
-use Rattle.common.specs.Choice.{if◌then◌else◌}
+use Rattle.std.specs.Prelude.{Bool, ◌&&◌, ℕ, ◌/◌, ◌%◌, eqb, leb, if◌then◌else◌}
 
 -- a status is in the low 8 bits of what is read
 abbrev pub status_in : ℕ → ℕ

@@ -11,7 +11,7 @@ use borrow.Rule.Slice.PartMut.{mid_of}
 use lib.Dec.{eqb, ltb}
 use lib.Bits.{bit_and, bit_or, bit_xor, and_le_l, and_le_r, or_add_and, xor_add_and, xor_self}
 use borrow.Author.Tests.{lt-ltb, le-ltb, eq-eqb, ne_eqb, eqb-true, eqb-false, not-false}
-use Rattle.common.specs.Choice.{if◌then◌else◌}
+use Rattle.std.specs.Prelude.{if◌then◌else◌}
 use Rattle.common.proofs.Choice.{if_true, if_false, if_ind, or_left, or_right}
 use Rattle.common.specs.Lists.{overwritten, Bytes}
 use Rattle.common.proofs.Lists.{overwritten_more}

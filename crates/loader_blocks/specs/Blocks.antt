@@ -1,7 +1,6 @@
 -- What the stages of a load do to a block and to scratch, and what they cost in cycles. Lists are of units but where bytes are said.
-use Rattle.std.specs.Prelude.{◌≡◌, Bool, false, not, ◌&&◌, List, ℕ, zero, suc, ◌+◌, ◌≤◌, ◌<◌, length, get_or, set, replicate, eqb, ltb, leb}
+use Rattle.std.specs.Prelude.{◌≡◌, Bool, false, not, ◌&&◌, List, ℕ, zero, suc, ◌+◌, ◌≤◌, ◌<◌, length, get_or, set, replicate, eqb, ltb, leb, if◌then◌else◌}
 use Rattle.std.specs.Int.Bits.{bit_and}
-use Rattle.common.specs.Choice.{if◌then◌else◌}
 use Rattle.common.specs.Lists.{overwritten}
 use Rattle.units.specs.Units.{units, torn, top}
 use Rattle.loader_walk.specs.Walks.{rises_in, diff_from}

@@ -2,9 +2,8 @@
 // block inside the array. Each stage is one walk, and gives the cycles of its operations: an operation's polls are counted, not made.
 #![tactic(auto)]
 
-ghost use Rattle.std.specs.Prelude.{◌≡◌, true, false, ◌+◌, ◌<◌, ◌≤◌, length, eqb};
+ghost use Rattle.std.specs.Prelude.{◌≡◌, true, false, ◌+◌, ◌<◌, ◌≤◌, length, eqb, if◌then◌else◌};
 ghost use Rattle.std.specs.Int.Bits.{bit_and, bit_xor};
-ghost use Rattle.common.specs.Choice.{if◌then◌else◌};
 ghost use Rattle.common.specs.Lists.{overwritten};
 ghost use Rattle.units.specs.Units.{units, spare, pairs, torn};
 ghost use Rattle.loader_walk.specs.Walks.{rises_in, diff_from};

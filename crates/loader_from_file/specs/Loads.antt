@@ -1,7 +1,6 @@
 -- A load and a verify from a file, on lent bytes: after a run's own tests the file is judged, and only then wanted is filled and the run
 -- made.
-use Rattle.std.specs.Prelude.{not, ◌||◌, List, [], ◌∷◌, ◌++◌, ℕ, ◌-◌, length, get_or, replicate, eqb, ltb}
-use Rattle.common.specs.Choice.{if◌then◌else◌}
+use Rattle.std.specs.Prelude.{not, ◌||◌, List, [], ◌∷◌, ◌++◌, ℕ, ◌-◌, length, get_or, replicate, eqb, ltb, if◌then◌else◌}
 use Rattle.common.specs.Numbers.{Row, row, given}
 use Rattle.model_types.specs.declared.State.{State}
 use Rattle.file_codec.specs.File.{limit, length_wrong, blocks_in, blocks_rows}

@@ -2,8 +2,7 @@
 -- to interrupt (ps) and the addresses to read each time (bs, k of them). In a listed poll's place come B0H, 70H, polls until SR.7, FFH,
 -- k reads into the room and, where SR.6 was set, D0H; the loader's own record waits meanwhile. What is wanted, scratch and the room are
 -- lists of units, the polls and the addresses lists of numbers.
-use Rattle.std.specs.Prelude.{Bool, false, List, ℕ, ◌+◌, ◌/◌, ◌%◌, get_or, set, eqb, ltb, leb}
-use Rattle.common.specs.Choice.{if◌then◌else◌}
+use Rattle.std.specs.Prelude.{Bool, false, List, ℕ, ◌+◌, ◌/◌, ◌%◌, get_or, set, eqb, ltb, leb, if◌then◌else◌}
 use Rattle.units.specs.Units.{carried}
 use Rattle.loader_held_lists.specs.Listings.{some_of}
 use Rattle.model_types.specs.declared.Kind.TheVariants.{Read, Write}

@@ -7,7 +7,7 @@ use native.Mathlib.Omega.{arith}
 use lib.ListN.{length, take, drop, length-append, length-take, length-drop}
 use lib.Dec.{ltb, leb}
 use borrow.Author.Tests.{lt-ltb, lt-leb}
-use Rattle.common.specs.Choice.{if◌then◌else◌}
+use Rattle.std.specs.Prelude.{if◌then◌else◌}
 use Rattle.common.proofs.Choice.{if_true, if_false}
 use Rattle.common.specs.Lists.{overwritten}
 use Rattle.device.specs.declared.Device.{Device}

@@ -7,7 +7,7 @@ use native.Mathlib.Omega.{arith}
 use lib.ListN.{length}
 use lib.Bits.{bit_or}
 use lib.Dec.{eqb}
-use Rattle.common.specs.Choice.{if◌then◌else◌}
+use Rattle.std.specs.Prelude.{if◌then◌else◌}
 use Rattle.common.specs.Lists.{overlaid}
 use Rattle.device.specs.Parts.{size_of, start_of}
 use Rattle.model_types.specs.declared.Kind.TheVariants.{Read, Write}

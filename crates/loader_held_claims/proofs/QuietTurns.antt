@@ -5,7 +5,7 @@ use mathlib.Core.List.{List}
 use Prim.Native.Nat.{ℕ, zero, suc, ◌-◌}
 use lib.ListN.{length, get_or}
 use lib.Dec.{eqb, ltb, leb}
-use Rattle.common.specs.Choice.{if◌then◌else◌}
+use Rattle.std.specs.Prelude.{if◌then◌else◌}
 use Rattle.common.proofs.Choice.{if_ind, unlike}
 use Rattle.units.specs.Units.{carried}
 use Rattle.device.specs.declared.Device.{Device}

@@ -9,7 +9,7 @@ use lib.ListN.{length, get_or, take, drop, replicate, length-replicate, get_or-r
 use lib.Seq.{drop_at, length-take-le}
 use lib.Dec.{eqb, ltb}
 use borrow.Author.Tests.{ltb-true, ltb-false, eq-eqb}
-use Rattle.common.specs.Choice.{if◌then◌else◌}
+use Rattle.std.specs.Prelude.{if◌then◌else◌}
 use Rattle.common.proofs.Choice.{unlike, or_left, or_right}
 use Rattle.common.specs.Lists.{overlaid}
 use Rattle.common.proofs.Bytes.{overlaid_before, overlaid_after}

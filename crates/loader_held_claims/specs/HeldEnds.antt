@@ -1,7 +1,6 @@
 -- How a load with interruptions ends that nothing refuses, whatever VPP and RP#: as the old one, with what interruptions add to it. bs are
 -- the addresses read, ps the polls told.
-use Rattle.std.specs.Prelude.{◌≡◌, Bool, true, ◌&&◌, List, [], ◌∷◌, ℕ, ◌+◌, length, eqb}
-use Rattle.common.specs.Choice.{if◌then◌else◌}
+use Rattle.std.specs.Prelude.{◌≡◌, Bool, true, ◌&&◌, List, [], ◌∷◌, ℕ, ◌+◌, length, eqb, if◌then◌else◌}
 use Rattle.device.specs.declared.Device.{Device}
 use Rattle.device.specs.Parts.{start_of}
 use Rattle.model_types.specs.declared.Pins.{Pins}

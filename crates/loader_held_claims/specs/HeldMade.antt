@@ -1,6 +1,5 @@
 -- What such a load begins, the cycles that it makes, and what an interruption costs and reads.
-use Rattle.std.specs.Prelude.{◌≡◌, Bool, true, false, ◌&&◌, ◌||◌, List, [], ◌∷◌, ℕ, zero, suc, ◌+◌, ◌-◌, ◌<◌, length, get_or, eqb, ltb}
-use Rattle.common.specs.Choice.{if◌then◌else◌}
+use Rattle.std.specs.Prelude.{◌≡◌, Bool, true, false, ◌&&◌, ◌||◌, List, [], ◌∷◌, ℕ, zero, suc, ◌+◌, ◌-◌, ◌<◌, length, get_or, eqb, ltb, if◌then◌else◌}
 use Rattle.common.specs.Lists.{overwritten}
 use Rattle.device.specs.declared.Device.{Device}
 use Rattle.device.specs.Parts.{size_of, block_of}

@@ -9,7 +9,7 @@ use lib.ListN.{length, get_or, take, drop, length-take, get_or-append}
 use lib.Seq.{get_or-take, get_or-drop, get_or-append-add}
 use lib.Dec.{eqb, ltb}
 use borrow.Author.Tests.{eq-eqb, ltb-true, ltb-false}
-use Rattle.common.specs.Choice.{if◌then◌else◌}
+use Rattle.std.specs.Prelude.{if◌then◌else◌}
 use Rattle.common.proofs.Choice.{or_both, unlike, and_none}
 use Rattle.device.specs.declared.Device.{Device}
 use Rattle.device.specs.Parts.{row_of, in_words, shape_of, size_in, length_in, offset_in, start_in, size_of, start_of, length_of, block_of}

@@ -1,6 +1,5 @@
 -- A load with interruptions on lent bytes, in byte mode and in word mode, beside the run without them, and demand 3 of it.
-use Rattle.std.specs.Prelude.{◌≡◌, Bool, true, ◌&&◌, List, ◌++◌, ℕ, ◌+◌, ◌*◌, ◌≤◌, ◌<◌, length, get_or, drop}
-use Rattle.common.specs.Choice.{if◌then◌else◌}
+use Rattle.std.specs.Prelude.{◌≡◌, Bool, true, ◌&&◌, List, ◌++◌, ℕ, ◌+◌, ◌*◌, ◌≤◌, ◌<◌, length, get_or, drop, if◌then◌else◌}
 use Rattle.common.specs.Lists.{overlaid, Bytes}
 use Rattle.common.specs.Numbers.{NoRow}
 use Rattle.device.specs.Parts.{start_of, length_of}

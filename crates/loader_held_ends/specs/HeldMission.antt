@@ -1,7 +1,6 @@
 -- A load with interruptions made to its end: what it returns, leaves, begins and makes, whatever the end; and demand 3 of it. Lists are of
 -- units; bs are the addresses read, ps the polls told.
-use Rattle.std.specs.Prelude.{◌≡◌, Bool, true, ◌&&◌, List, ℕ, ◌+◌, ◌*◌, ◌≤◌, ◌<◌, min, length, get_or}
-use Rattle.common.specs.Choice.{if◌then◌else◌}
+use Rattle.std.specs.Prelude.{◌≡◌, Bool, true, ◌&&◌, List, ℕ, ◌+◌, ◌*◌, ◌≤◌, ◌<◌, min, length, get_or, if◌then◌else◌}
 use Rattle.common.specs.Lists.{overlaid}
 use Rattle.device.specs.Parts.{start_of, block_of}
 use Rattle.model_types.specs.Cells.{Cells}

@@ -1,7 +1,6 @@
 -- A load from a file whose erase is interrupted, on lent bytes: after the tests of a load from a file come those of the addresses and the
 -- room, and only then wanted is filled and the run made.
-use Rattle.std.specs.Prelude.{List, ◌++◌, ℕ, length, eqb}
-use Rattle.common.specs.Choice.{if◌then◌else◌}
+use Rattle.std.specs.Prelude.{List, ◌++◌, ℕ, length, eqb, if◌then◌else◌}
 use Rattle.common.specs.Numbers.{Row}
 use Rattle.model_types.specs.declared.State.{State}
 use Rattle.loader_run.specs.declared.Ran.{Ran}

@@ -1,6 +1,5 @@
 -- A load from a file with interruptions, on lent bytes: the start that demand 3 speaks of, and what a good load returns and leaves.
-use Rattle.std.specs.Prelude.{◌≡◌, Bool, true, false, ◌&&◌, List, ℕ, ◌+◌, ◌≤◌, ◌<◌, length, get_or}
-use Rattle.common.specs.Choice.{if◌then◌else◌}
+use Rattle.std.specs.Prelude.{◌≡◌, Bool, true, false, ◌&&◌, List, ℕ, ◌+◌, ◌≤◌, ◌<◌, length, get_or, if◌then◌else◌}
 use Rattle.common.specs.Lists.{Bytes}
 use Rattle.common.specs.Numbers.{NoRow}
 use Rattle.device.specs.Parts.{length_of, start_of}

@@ -3,8 +3,7 @@
 // a bit had to rise; what interruptions read lies in other blocks, which it leaves alone.
 #![tactic(auto)]
 
-ghost use Rattle.std.specs.Prelude.{◌≡◌, ◌+◌, ◌≤◌, ◌<◌, length, get_or, eqb, ltb};
-ghost use Rattle.common.specs.Choice.{if◌then◌else◌};
+ghost use Rattle.std.specs.Prelude.{◌≡◌, ◌+◌, ◌≤◌, ◌<◌, length, get_or, eqb, ltb, if◌then◌else◌};
 ghost use Rattle.model_types.specs.declared.Mode.TheVariants.{Array};
 ghost use Rattle.loader.specs.declared.Work.TheVariants.{Load};
 ghost use Rattle.units.specs.Units.{units, spare, top};

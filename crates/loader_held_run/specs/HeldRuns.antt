@@ -1,6 +1,5 @@
 -- A run whose erase is interrupted, on lent bytes: its tests, its beginning, and what it returns and leaves.
-use Rattle.std.specs.Prelude.{Bool, List, ◌++◌, ℕ, ◌+◌, ◌*◌, length, eqb}
-use Rattle.common.specs.Choice.{if◌then◌else◌}
+use Rattle.std.specs.Prelude.{Bool, List, ◌++◌, ℕ, ◌+◌, ◌*◌, length, eqb, if◌then◌else◌}
 use Rattle.common.specs.Numbers.{Row}
 use Rattle.units.specs.Units.{units, spare, back}
 use Rattle.device.specs.declared.Device.{Device}

@@ -1,6 +1,5 @@
 -- A load whose erase is interrupted, stepped against the model; bs are the addresses to read, ps the polls to interrupt.
-use Rattle.std.specs.Prelude.{Bool, List, [], ℕ, zero, suc, ◌+◌, length}
-use Rattle.common.specs.Choice.{if◌then◌else◌}
+use Rattle.std.specs.Prelude.{Bool, List, [], ℕ, zero, suc, ◌+◌, length, if◌then◌else◌}
 use Rattle.device.specs.declared.Device.{Device}
 use Rattle.model_types.specs.declared.Cycle.{Cycle}
 use Rattle.model_types.specs.declared.State.{State}

@@ -8,7 +8,7 @@ use native.Mathlib.Nat.{not-suc-le-zero, le_of_suc-le-suc}
 use lib.ListN.{length, get_or}
 use lib.Dec.{eqb, ltb, leb}
 use borrow.Author.Tests.{ltb-true, ltb-false, leb-false, le-ltb, lt-ltb, lt-leb}
-use Rattle.common.specs.Choice.{if◌then◌else◌}
+use Rattle.std.specs.Prelude.{if◌then◌else◌}
 use Rattle.common.specs.Numbers.{NoRow, past, end}
 use Rattle.common.proofs.Choice.{if_ind, or_left, or_right, or_both, and_rest, and_none, unlike}
 use Rattle.common.proofs.Numbers.{given_no_row, no_row_given, no_head, no_tail}

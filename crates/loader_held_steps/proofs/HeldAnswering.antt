@@ -7,7 +7,7 @@ use Prim.Native.Nat.{ℕ}
 use lib.ListN.{length}
 use lib.Dec.{eqb}
 use borrow.Author.Tests.{eqb-true, eq-eqb, ne_eqb}
-use Rattle.common.specs.Choice.{if◌then◌else◌}
+use Rattle.std.specs.Prelude.{if◌then◌else◌}
 use Rattle.common.specs.Numbers.{Foremost, NoRow, given}
 use Rattle.common.proofs.Choice.{if_ind, if_true, if_false, unlike}
 use Rattle.common.proofs.Numbers.{given_foremost, foremost_given, given_no_row, no_row_given}

@@ -7,7 +7,7 @@ use native.Mathlib.Omega.{arith}
 use lib.ListN.{length}
 use lib.Dec.{eqb, ltb}
 use borrow.Author.Tests.{eqb-true, eq-eqb, le-ltb}
-use Rattle.common.specs.Choice.{if◌then◌else◌}
+use Rattle.std.specs.Prelude.{if◌then◌else◌}
 use Rattle.common.specs.Lists.{Bytes}
 use Rattle.common.specs.Numbers.{Row, row, given, NoRow, past, end}
 use Rattle.common.proofs.Choice.{if_ind, if_true, if_false}

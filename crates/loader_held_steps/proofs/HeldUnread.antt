@@ -6,7 +6,7 @@ use Prim.Native.Nat.{ℕ, ◌%◌}
 use native.Mathlib.Omega.{arith}
 use lib.ListN.{length, set}
 use lib.Dec.{eqb}
-use Rattle.common.specs.Choice.{if◌then◌else◌}
+use Rattle.std.specs.Prelude.{if◌then◌else◌}
 use Rattle.units.specs.Units.{units, spare, back, lent, carried}
 use Rattle.loader.specs.declared.Loader.{Loader}
 use Rattle.loader_moves.specs.Moves.{next_of}

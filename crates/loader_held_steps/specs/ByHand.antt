@@ -1,6 +1,5 @@
 -- Steps one after the other, each with the data that a host hands in, and the sayings that they give.
-use Rattle.std.specs.Prelude.{◌≡◌, List, [], ◌∷◌, ℕ, length, eqb}
-use Rattle.common.specs.Choice.{if◌then◌else◌}
+use Rattle.std.specs.Prelude.{◌≡◌, List, [], ◌∷◌, ℕ, length, eqb, if◌then◌else◌}
 use Rattle.loader.specs.declared.Loader.{Loader}
 use Rattle.loader.specs.declared.Saying.{Saying}
 use Rattle.loader_steps.specs.Front.{step_response, scratch_after}

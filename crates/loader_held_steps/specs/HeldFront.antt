@@ -1,8 +1,7 @@
 -- A load with interruptions a step at a time: its start, its step, and their tests. The polls to interrupt are ps, the addresses to read
 -- bs; the room is counted in bytes. What is wanted and scratch are lists of units: those of the lent bytes, of which an odd number makes
 -- none in word mode.
-use Rattle.std.specs.Prelude.{Bool, true, false, not, ◌&&◌, ◌||◌, List, [], ◌∷◌, ◌++◌, ℕ, length, get_or, eqb, ltb, leb}
-use Rattle.common.specs.Choice.{if◌then◌else◌}
+use Rattle.std.specs.Prelude.{Bool, true, false, not, ◌&&◌, ◌||◌, List, [], ◌∷◌, ◌++◌, ℕ, length, get_or, eqb, ltb, leb, if◌then◌else◌}
 use Rattle.common.specs.Numbers.{Row, row, given}
 use Rattle.units.specs.Units.{units, spare, lent, back}
 use Rattle.device.specs.declared.Part.{Part}

@@ -1,6 +1,5 @@
 -- The loader's moves: the record after a read's data. What is wanted and scratch are lists of units.
-use Rattle.std.specs.Prelude.{Bool, false, ◌&&◌, List, ℕ, ◌+◌, ◌-◌, ◌%◌, length, get_or, eqb, ltb, leb}
-use Rattle.common.specs.Choice.{if◌then◌else◌}
+use Rattle.std.specs.Prelude.{Bool, false, ◌&&◌, List, ℕ, ◌+◌, ◌-◌, ◌%◌, length, get_or, eqb, ltb, leb, if◌then◌else◌}
 use Rattle.units.specs.Units.{carried}
 use Rattle.loader.specs.declared.Stage.{Stage}
 use Rattle.loader.specs.declared.Stage.TheVariants.{Clearing, Opening, Reading, EraseAsking, EraseConfirming, EraseWaiting}

@@ -1,6 +1,5 @@
 -- A run: its tests, its beginning and what it returns, told of lists of units; and then of lent bytes.
-use Rattle.std.specs.Prelude.{Bool, not, List, [], ◌∷◌, ◌++◌, ℕ, length, eqb}
-use Rattle.common.specs.Choice.{if◌then◌else◌}
+use Rattle.std.specs.Prelude.{Bool, not, List, [], ◌∷◌, ◌++◌, ℕ, length, eqb, if◌then◌else◌}
 use Rattle.common.specs.Numbers.{Row, row, given}
 use Rattle.units.specs.Units.{back, lent, lent_in}
 use Rattle.device.specs.declared.Device.{Device}

@@ -9,7 +9,7 @@ use lib.Dec.{eqb}
 use borrow.Author.Tests.{ne_eqb}
 use Rattle.common.proofs.Choice.{if_false}
 use Rattle.device.specs.Parts.{row_of, in_words, shape_of, size_in, length_in, is_large, unknown_part, unknown_device, size_of, length_of}
-use Rattle.common.specs.Choice.{if◌then◌else◌}
+use Rattle.std.specs.Prelude.{if◌then◌else◌}
 use Rattle.device.specs.declared.Part.{Part}
 use Rattle.device.specs.declared.Device.{Device}
 use Rattle.units.specs.Units.{lent_in, top}

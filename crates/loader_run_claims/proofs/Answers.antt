@@ -6,7 +6,7 @@ use native.Mathlib.Omega.{arith}
 use lib.Dec.{eqb, ltb}
 use lib.Bits.{bit_and, bit_or}
 use borrow.Author.Tests.{lt-leb, ne_eqb, eqb-true, le-ltb}
-use Rattle.common.specs.Choice.{if◌then◌else◌}
+use Rattle.std.specs.Prelude.{if◌then◌else◌}
 use Rattle.common.proofs.Choice.{if_false, or_both, unlike, and_none}
 use Rattle.device.specs.declared.Device.{Device}
 use Rattle.device.specs.Parts.{unknown_device, size_of, block_of}

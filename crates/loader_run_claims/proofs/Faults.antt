@@ -9,7 +9,7 @@ use lib.Dec.{eqb, ltb}
 use lib.Bits.{bit_or}
 use borrow.Author.Tests.{lt-ltb, le-ltb, eqb-true}
 use Rattle.model_types.specs.Cells.{ones, Cells}
-use Rattle.common.specs.Choice.{if◌then◌else◌}
+use Rattle.std.specs.Prelude.{if◌then◌else◌}
 use Rattle.common.proofs.Choice.{if_true, if_false, and_right}
 use Rattle.common.specs.Lists.{overlaid}
 use Rattle.common.proofs.Lists.{overwritten_all}

@@ -11,7 +11,7 @@ use lib.Seq.{take_at, drop_at, length-take-le}
 use lib.Dec.{eqb, ltb}
 use borrow.Author.Tests.{eq-eqb, ne_eqb, le-ltb, lt-ltb, ltb-true, ltb-false}
 use Rattle.model_types.specs.Cells.{Cells}
-use Rattle.common.specs.Choice.{if◌then◌else◌}
+use Rattle.std.specs.Prelude.{if◌then◌else◌}
 use Rattle.common.proofs.Choice.{if_false}
 use Rattle.common.specs.Lists.{overlaid}
 use Rattle.common.proofs.Bytes.{overlaid_before, overlaid_after}

@@ -11,7 +11,7 @@ use lib.Bits.{bit_and}
 use borrow.Author.Tests.{lt-ltb, le-ltb, eq-eqb, ne_eqb, eqb-true, lt-leb, not-false}
 use Rattle.model_types.specs.Cells.{ones, Cells}
 use Rattle.model_types.proofs.Ones.{and_ones}
-use Rattle.common.specs.Choice.{if◌then◌else◌}
+use Rattle.std.specs.Prelude.{if◌then◌else◌}
 use Rattle.common.proofs.Choice.{if_ind, if_true, if_false, and_right, or_left, or_right, unlike}
 use Rattle.model.proofs.Status.{fits, all_below_lem}
 use Rattle.common.specs.Lists.{overlaid, overwritten}

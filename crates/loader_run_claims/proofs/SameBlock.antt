@@ -10,7 +10,7 @@ use lib.Seq.{ext_get_or}
 use lib.Dec.{eqb}
 use lib.Bits.{and_self}
 use borrow.Author.Tests.{eq-eqb, eqb-true, eqb-false}
-use Rattle.common.specs.Choice.{if◌then◌else◌}
+use Rattle.std.specs.Prelude.{if◌then◌else◌}
 use Rattle.common.proofs.Choice.{unlike}
 use Rattle.device.specs.declared.Device.{Device}
 use Rattle.model_types.specs.declared.Pins.{Pins}

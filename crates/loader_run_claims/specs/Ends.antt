@@ -1,7 +1,6 @@
 -- How a run that nothing refuses ends, with or without the verify after the load, for every supply and level that is let in.
-use Rattle.std.specs.Prelude.{◌≡◌, Bool, true, not, ◌&&◌, List, [], ◌∷◌, ℕ, ◌+◌, length, get_or, eqb}
+use Rattle.std.specs.Prelude.{◌≡◌, Bool, true, not, ◌&&◌, List, [], ◌∷◌, ℕ, ◌+◌, length, get_or, eqb, if◌then◌else◌}
 use Rattle.device.specs.declared.Part.{Part}
-use Rattle.common.specs.Choice.{if◌then◌else◌}
 use Rattle.common.specs.Lists.{overlaid}
 use Rattle.device.specs.declared.Device.{Device}
 use Rattle.device.specs.Parts.{start_of}

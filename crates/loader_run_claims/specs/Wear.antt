@@ -1,7 +1,6 @@
 -- The operations that a load begins, by the model's own definition, and what is wanted of it.
-use Rattle.std.specs.Prelude.{Bool, true, List, [], ◌∷◌, ℕ, zero, suc, ◌+◌, ◌*◌, length, get_or, take, drop, replicate, eqb}
+use Rattle.std.specs.Prelude.{Bool, true, List, [], ◌∷◌, ℕ, zero, suc, ◌+◌, ◌*◌, length, get_or, take, drop, replicate, eqb, if◌then◌else◌}
 use Rattle.model_types.specs.Cells.{ones}
-use Rattle.common.specs.Choice.{if◌then◌else◌}
 use Rattle.device.specs.declared.Part.{Part}
 use Rattle.device.specs.declared.Device.{Device}
 use Rattle.device.specs.Parts.{length_of, start_of}

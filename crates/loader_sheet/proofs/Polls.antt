@@ -9,7 +9,7 @@ use lib.ListN.{length, get_or, set, replicate}
 use lib.Bits.{bit_and}
 use lib.Dec.{eqb, ltb, leb}
 use borrow.Author.Tests.{eqb-true, eq-eqb, ne_eqb, leb-true, le-leb, not-true}
-use Rattle.common.specs.Choice.{if◌then◌else◌}
+use Rattle.std.specs.Prelude.{if◌then◌else◌}
 use Rattle.common.proofs.Choice.{if_ind, if_true, if_false, and_left, and_right, unlike}
 use Rattle.model_types.specs.Cells.{ones}
 use Rattle.model.proofs.Status.{all_below, all_below_lem}

@@ -1,7 +1,6 @@
 -- The sentences of a loader that is fed by hand, a field for each part.
-use Rattle.std.specs.Prelude.{◌≡◌, Bool, true, false, List, ◌↔◌, ℕ, ◌≤◌, ◌<◌, length, get_or, set, replicate, eqb}
+use Rattle.std.specs.Prelude.{◌≡◌, Bool, true, false, List, ◌↔◌, ℕ, ◌≤◌, ◌<◌, length, get_or, set, replicate, eqb, if◌then◌else◌}
 use Rattle.std.specs.Int.Bits.{bit_and}
-use Rattle.common.specs.Choice.{if◌then◌else◌}
 use Rattle.device.specs.declared.Part.{Part}
 use Rattle.model_types.specs.Cells.{ones}
 use Rattle.model_types.specs.declared.Pins.{Pins}

@@ -9,7 +9,7 @@ use lib.ListN.{length, get_or, length-set, length-replicate}
 use lib.Dec.{eqb, ltb, leb}
 use borrow.Author.Tests.{ltb-true, ltb-false, leb-false, eqb-true, eqb-false, eq-eqb, ne_eqb, le-ltb, lt-leb, not-false}
 use Rattle.model_types.specs.Cells.{ones}
-use Rattle.common.specs.Choice.{if◌then◌else◌}
+use Rattle.std.specs.Prelude.{if◌then◌else◌}
 use Rattle.common.proofs.Choice.{if_ind, if_true, if_false, or_left, or_right, and_rest, unlike, and_none}
 use Rattle.common.specs.Numbers.{Foremost, NoRow, end, past, given}
 use Rattle.common.proofs.Numbers.{given_foremost, foremost_given, given_no_row, no_row_given, no_head, no_tail}

@@ -1,7 +1,6 @@
 -- The loader's tests, its start and its step. Lengths are counted in units, and what is wanted and scratch are lists of units: those of
 -- the lent bytes, of which an odd number makes none in word mode.
-use Rattle.std.specs.Prelude.{Bool, true, false, not, ◌&&◌, ◌||◌, List, [], ◌∷◌, ℕ, length, eqb, ltb, leb}
-use Rattle.common.specs.Choice.{if◌then◌else◌}
+use Rattle.std.specs.Prelude.{Bool, true, false, not, ◌&&◌, ◌||◌, List, [], ◌∷◌, ℕ, length, eqb, ltb, leb, if◌then◌else◌}
 use Rattle.common.specs.Numbers.{Row, row, given}
 use Rattle.device.specs.declared.Part.{Part}
 use Rattle.device.specs.Parts.{unknown_part, length_of}

@@ -1,7 +1,6 @@
 -- What only the code's shape asks for: it adds addresses in 32 bits. A record that a start or a step takes has its place inside the block,
 -- and there an address is the sum (`here_is`).
-use Rattle.std.specs.Prelude.{ℕ, ◌+◌, ltb}
-use Rattle.common.specs.Choice.{if◌then◌else◌}
+use Rattle.std.specs.Prelude.{ℕ, ◌+◌, ltb, if◌then◌else◌}
 use Rattle.loader.specs.declared.Loader.{Loader}
 use Rattle.loader_steps.specs.Addresses.{first_address}
 

@@ -1,6 +1,5 @@
 -- The cycle that is out. Addresses are those of units, and what is wanted is a list of units.
-use Rattle.std.specs.Prelude.{Bool, List, ℕ, get_or}
-use Rattle.common.specs.Choice.{if◌then◌else◌}
+use Rattle.std.specs.Prelude.{Bool, List, ℕ, get_or, if◌then◌else◌}
 use Rattle.units.specs.Address.{byte_at}
 use Rattle.model_types.specs.declared.Kind.{Kind}
 use Rattle.model_types.specs.declared.Cycle.{Cycle}

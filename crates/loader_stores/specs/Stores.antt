@@ -1,9 +1,8 @@
 -- What the data of a cycle do to scratch, a list of units.
-use Rattle.std.specs.Prelude.{Bool, ◌&&◌, List, ℕ, length, get_or, set, replicate, eqb}
+use Rattle.std.specs.Prelude.{Bool, ◌&&◌, List, ℕ, length, get_or, set, replicate, eqb, if◌then◌else◌}
 use Rattle.units.specs.Units.{carried}
 use Rattle.model_types.specs.Cells.{ones}
 use Rattle.device.specs.declared.Part.{Part}
-use Rattle.common.specs.Choice.{if◌then◌else◌}
 use Rattle.loader.specs.declared.Stage.{Stage}
 use Rattle.loader.specs.declared.Stage.TheVariants.{Clearing, Opening, Reading, EraseAsking, EraseConfirming, EraseWaiting, ProgramAsking}
 use Rattle.loader.specs.declared.Stage.TheVariants.{ProgramSending, ProgramWaiting, Closing, Verifying, Ended}

@@ -25,7 +25,7 @@ use Rattle.loader_run_claims.proofs.Lent.{units_cells, held_units_lem}
 use Rattle.loader_verify_claims.proofs.Verifying.{well_exactly, first_difference}
 use Rattle.loader_verify_claims.proofs.FirstDifference.{first_byte}
 use Rattle.loader_verify_claims.specs.Lent.{LentMet}
-use Rattle.common.specs.Choice.{if◌then◌else◌}
+use Rattle.std.specs.Prelude.{if◌then◌else◌}
 use Rattle.loader_walk.specs.Walks.{diff_from}
 use lib.Dec.{eqb}
 use lib.Seq.{length-take-le}

@@ -8,7 +8,7 @@ use lib.ListN.{length, get_or, take, drop}
 use lib.Seq.{take_at, drop_at, length-take-le}
 use lib.Dec.{eqb}
 use borrow.Author.Tests.{eqb-true, eqb-false}
-use Rattle.common.specs.Choice.{if◌then◌else◌}
+use Rattle.std.specs.Prelude.{if◌then◌else◌}
 use Rattle.common.proofs.Choice.{if_true, if_false}
 use Rattle.common.specs.Lists.{overlaid, overwritten}
 use Rattle.common.proofs.Lists.{overwritten_all}

@@ -1,6 +1,5 @@
 -- A run as its load and the verify that follows.
-use Rattle.std.specs.Prelude.{List, [], ◌++◌, false, ℕ, ◌+◌, eqb}
-use Rattle.common.specs.Choice.{if◌then◌else◌}
+use Rattle.std.specs.Prelude.{List, [], ◌++◌, false, ℕ, ◌+◌, eqb, if◌then◌else◌}
 use Rattle.model_types.specs.declared.Cycle.{Cycle}
 use Rattle.loader_run.specs.declared.Ran.{Ran}
 use Rattle.loader_run.specs.Runs.{RunLeft, run_left, doing, job_of}

@@ -1,8 +1,7 @@
 -- How a verify alone that nothing refuses ends. All lists are of units.
-use Rattle.std.specs.Prelude.{◌≡◌, true, List, [], ℕ, ◌+◌, ◌%◌, ◌<◌, eqb, length, get_or}
+use Rattle.std.specs.Prelude.{◌≡◌, true, List, [], ℕ, ◌+◌, ◌%◌, ◌<◌, eqb, length, get_or, if◌then◌else◌}
 use Rattle.units.specs.Address.{byte_at}
 use Rattle.device.specs.declared.Part.{Part}
-use Rattle.common.specs.Choice.{if◌then◌else◌}
 use Rattle.common.specs.Lists.{overwritten}
 use Rattle.device.specs.Parts.{start_of}
 use Rattle.model_types.specs.declared.Mode.TheVariants.{Array}

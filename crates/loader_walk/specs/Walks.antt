@@ -1,7 +1,6 @@
 -- Walks over what is wanted and what the block held, lists of units: by the units left, at a place.
-use Rattle.std.specs.Prelude.{Bool, false, not, ◌||◌, List, ℕ, zero, suc, ◌+◌, ◌-◌, length, get_or, eqb}
+use Rattle.std.specs.Prelude.{Bool, false, not, ◌||◌, List, ℕ, zero, suc, ◌+◌, ◌-◌, length, get_or, eqb, if◌then◌else◌}
 use Rattle.std.specs.Int.Bits.{bit_and}
-use Rattle.common.specs.Choice.{if◌then◌else◌}
 
 -- some bit is 1 in the wanted unit where the held one has a 0 (R-load-2)
 abbrev pub must_rise : ℕ → ℕ → Bool

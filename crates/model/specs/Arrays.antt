@@ -1,7 +1,6 @@
 -- What a cycle does to the array, and what the host sees: on lists of units, and at the end on the lent bytes.
-use Rattle.std.specs.Prelude.{◌≡◌, Bool, true, false, List, [], ◌∷◌, ℕ, length, get_or, set, take, replicate}
+use Rattle.std.specs.Prelude.{◌≡◌, Bool, true, false, List, [], ◌∷◌, ℕ, length, get_or, set, take, replicate, if◌then◌else◌}
 use Rattle.std.specs.Int.Bits.{bit_and, bit_or}
-use Rattle.common.specs.Choice.{if◌then◌else◌}
 use Rattle.model_types.specs.Cells.{ones}
 use Rattle.common.specs.Lists.{overlaid}
 use Rattle.device.specs.Parts.{start_of, length_of}

@@ -1,6 +1,5 @@
 -- Operations over their life: which one a cycle begins, which is pending in a state, which one an effect ends or cuts.
-use Rattle.std.specs.Prelude.{not, ◌&&◌, ℕ, eqb}
-use Rattle.common.specs.Choice.{if◌then◌else◌}
+use Rattle.std.specs.Prelude.{not, ◌&&◌, ℕ, eqb, if◌then◌else◌}
 use Rattle.device.specs.declared.Part.{Part}
 use Rattle.device.specs.declared.Device.{Device}
 use Rattle.device.specs.Parts.{block_of}

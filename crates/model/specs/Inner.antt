@@ -1,8 +1,7 @@
 -- A cycle after it was judged, on any array and residue. Not part of what a buyer must believe, and meant only for callers that know
 -- refusals 1 to 6 not to apply: that it then is the cycle's answer is proved (`judged_answer`). Where one of them would apply, it
 -- answers what the rules forbid: data, a new state or a changed array instead of the refusal.
-use Rattle.std.specs.Prelude.{◌≡◌, Bool, true, ◌&&◌, List, ℕ, ◌≤◌, ◌<◌, length, eqb, ltb, leb}
-use Rattle.common.specs.Choice.{if◌then◌else◌}
+use Rattle.std.specs.Prelude.{◌≡◌, Bool, true, ◌&&◌, List, ℕ, ◌≤◌, ◌<◌, length, eqb, ltb, leb, if◌then◌else◌}
 use Rattle.device.specs.Parts.{size_of, length_of}
 use Rattle.device.specs.declared.Part.{Part}
 use Rattle.device.specs.declared.Device.{Device}

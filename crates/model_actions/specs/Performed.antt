@@ -1,6 +1,5 @@
 -- What comes of a write: what an action makes of the state.
-use Rattle.std.specs.Prelude.{Bool, ◌||◌, ℕ, ◌+◌}
-use Rattle.common.specs.Choice.{if◌then◌else◌}
+use Rattle.std.specs.Prelude.{Bool, ◌||◌, ℕ, ◌+◌, if◌then◌else◌}
 use Rattle.units.specs.Units.{carried}
 use Rattle.device.specs.Parts.{block_of}
 use Rattle.device.specs.declared.Part.{Part}

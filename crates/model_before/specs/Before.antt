@@ -1,8 +1,7 @@
 -- The rules as they were before devices 5 to 8, word for word: every definition that has changed since, or that stands on one that has.
 -- What is taken from elsewhere has not changed.
-use Rattle.std.specs.Prelude.{Bool, true, false, not, ◌&&◌, ◌||◌, List, [], ◌∷◌, ◌++◌, ℕ, ◌+◌, ◌-◌, length, get_or, set, take, replicate, eqb, ltb, leb}
+use Rattle.std.specs.Prelude.{Bool, true, false, not, ◌&&◌, ◌||◌, List, [], ◌∷◌, ◌++◌, ℕ, ◌+◌, ◌-◌, length, get_or, set, take, replicate, eqb, ltb, leb, if◌then◌else◌}
 use Rattle.std.specs.Int.Bits.{bit_and, bit_or}
-use Rattle.common.specs.Choice.{if◌then◌else◌}
 use Rattle.common.specs.Numbers.{Row, row, given}
 use Rattle.common.specs.Lists.{overlaid}
 use Rattle.device.specs.Parts.{four_blocks, size_in, length_in, start_in, block_in}

@@ -1,6 +1,5 @@
 -- What a write asks for.
-use Rattle.std.specs.Prelude.{Bool, true, false, ◌&&◌, ◌||◌, ℕ, ◌%◌, eqb}
-use Rattle.common.specs.Choice.{if◌then◌else◌}
+use Rattle.std.specs.Prelude.{Bool, true, false, ◌&&◌, ◌||◌, ℕ, ◌%◌, eqb, if◌then◌else◌}
 use Rattle.device.specs.Parts.{is_large}
 use Rattle.device.specs.declared.Part.{Part}
 use Rattle.model_types.specs.declared.Phase.{Phase}

@@ -13,7 +13,7 @@ use lib.Bits.{bit_and, and_self, and_step, and_shr}
 use lib.Dec.{eqb, ltb}
 use borrow.Author.Tests.{eqb-true, eqb-false, ne_eqb, ltb-true, ltb-false, lt-ltb, le-ltb, not-true}
 use Rattle.model_types.specs.Cells.{ones}
-use Rattle.common.specs.Choice.{if◌then◌else◌}
+use Rattle.std.specs.Prelude.{if◌then◌else◌}
 use Rattle.common.proofs.Choice.{if_true, if_false, if_same, and_left, and_right, unlike}
 use Rattle.common.specs.Lists.{overlaid}
 use Rattle.common.proofs.Bytes.{overlaid_in, overlaid_before, overlaid_after}

@@ -1,6 +1,5 @@
 -- Pin levels and supply bands.
-use Rattle.std.specs.Prelude.{Bool, false, not, ◌&&◌, ◌||◌, ℕ, eqb, ltb, leb}
-use Rattle.common.specs.Choice.{if◌then◌else◌}
+use Rattle.std.specs.Prelude.{Bool, false, not, ◌&&◌, ◌||◌, ℕ, eqb, ltb, leb, if◌then◌else◌}
 use Rattle.device.specs.Parts.{is_large, block_of}
 use Rattle.device.specs.declared.Part.{Part}
 use Rattle.model_types.specs.declared.Pins.{Pins}

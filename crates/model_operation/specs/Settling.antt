@@ -1,6 +1,5 @@
 -- Steps 1 to 3 of a cycle: what becomes of an operation before the read or write.
-use Rattle.std.specs.Prelude.{◌&&◌, ℕ, ◌+◌, ◌-◌, eqb}
-use Rattle.common.specs.Choice.{if◌then◌else◌}
+use Rattle.std.specs.Prelude.{◌&&◌, ℕ, ◌+◌, ◌-◌, eqb, if◌then◌else◌}
 use Rattle.device.specs.Parts.{block_of, length_of}
 use Rattle.device.specs.declared.Part.{Part}
 use Rattle.model_types.specs.declared.Mode.TheVariants.{Status}

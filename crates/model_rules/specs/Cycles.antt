@@ -1,7 +1,6 @@
 -- A whole cycle: the table of refusals, and the answer, state and effect where none applies. Addresses are those of units, and the
 -- lengths of the array and the residue are counted in units.
-use Rattle.std.specs.Prelude.{Bool, not, ◌&&◌, List, [], ◌∷◌, ◌++◌, ℕ, ◌/◌, eqb, ltb}
-use Rattle.common.specs.Choice.{if◌then◌else◌}
+use Rattle.std.specs.Prelude.{Bool, not, ◌&&◌, List, [], ◌∷◌, ◌++◌, ℕ, ◌/◌, eqb, ltb, if◌then◌else◌}
 use Rattle.common.specs.Numbers.{Row, row, given}
 use Rattle.device.specs.Parts.{is_large, block_of, code_of}
 use Rattle.device.specs.declared.Part.{Part}

@@ -1,8 +1,7 @@
 -- The answers kind by kind, in the order in which the code asks. Not part of what a buyer must believe, and meant only for callers
 -- that know refusals 1 to 6 not to apply: that the table then gives the same is proved (`passes`). Where one of them would apply,
 -- what is said here is not the device's answer.
-use Rattle.std.specs.Prelude.{Bool, false, not, ◌&&◌, ℕ, eqb, ltb}
-use Rattle.common.specs.Choice.{if◌then◌else◌}
+use Rattle.std.specs.Prelude.{Bool, false, not, ◌&&◌, ℕ, eqb, ltb, if◌then◌else◌}
 use Rattle.device.specs.Parts.{block_of}
 use Rattle.device.specs.declared.Part.{Part}
 use Rattle.device.specs.declared.Device.{Device}

@@ -6,7 +6,7 @@ use Prim.Native.Nat.{ℕ, ◌-◌}
 use lib.ListN.{length}
 use lib.Dec.{eqb, ltb, leb}
 use borrow.Author.Tests.{eqb-true, ltb-true, not-true}
-use Rattle.common.specs.Choice.{if◌then◌else◌}
+use Rattle.std.specs.Prelude.{if◌then◌else◌}
 use Rattle.common.specs.Numbers.NoRow.{end, past}
 use Rattle.common.proofs.Numbers.{given_no_row, no_row_given, no_head, no_tail}
 use Rattle.common.proofs.Choice.{if_ind, and_left, and_right, and_none, or_left, or_right, unlike}

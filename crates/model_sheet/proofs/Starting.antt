@@ -4,7 +4,7 @@ use mathlib.Core.Bool.{Bool, true, false, not, ◌&&◌, ◌||◌}
 use Prim.Native.Nat.{ℕ}
 use lib.ListN.{length}
 use lib.Dec.{eqb}
-use Rattle.common.specs.Choice.{if◌then◌else◌}
+use Rattle.std.specs.Prelude.{if◌then◌else◌}
 use Rattle.common.specs.Numbers.{given}
 use Rattle.common.proofs.Choice.{if_ind, if_same, if_false, and_left, and_right, and_rest, and_none, unlike}
 use Rattle.device.specs.declared.Part.{Part}

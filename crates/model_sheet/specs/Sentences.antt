@@ -1,7 +1,6 @@
 -- The data sheet's sentences that have several parts, each as a record with a field for each part.
-use Rattle.std.specs.Prelude.{◌≡◌, true, false, List, ℕ, ◌+◌, ◌<◌, get_or, set}
+use Rattle.std.specs.Prelude.{◌≡◌, true, false, List, ℕ, ◌+◌, ◌<◌, get_or, set, if◌then◌else◌}
 use Rattle.std.specs.Int.Bits.{bit_and, bit_or}
-use Rattle.common.specs.Choice.{if◌then◌else◌}
 use Rattle.device.specs.declared.Device.{Device}
 use Rattle.device.specs.Parts.{block_of}
 use Rattle.model_types.specs.declared.Kind.TheVariants.{Read, Write, Idle}

@@ -1,7 +1,6 @@
 -- How the code tests that a state is not proper, part by part, with SR.7 and SR.6 in one comparison. Not part of what a buyer must
 -- believe: that these tests together are `improper` is proved (`improper_parts`).
-use Rattle.std.specs.Prelude.{Bool, false, not, ◌||◌, ℕ, ◌/◌, ◌%◌, eqb, ltb, leb}
-use Rattle.common.specs.Choice.{if◌then◌else◌}
+use Rattle.std.specs.Prelude.{Bool, false, not, ◌||◌, ℕ, ◌/◌, ◌%◌, eqb, ltb, leb, if◌then◌else◌}
 use Rattle.device.specs.Parts.{size_of}
 use Rattle.device.specs.declared.Device.{Device}
 use Rattle.model_types.specs.declared.Mode.{Mode}

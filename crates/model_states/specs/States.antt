@@ -1,6 +1,5 @@
 -- Device states: what makes one proper, and the states that the rules name.
-use Rattle.std.specs.Prelude.{Bool, true, false, not, ◌&&◌, ◌||◌, ℕ, ◌/◌, ◌%◌, eqb, ltb, leb}
-use Rattle.common.specs.Choice.{if◌then◌else◌}
+use Rattle.std.specs.Prelude.{Bool, true, false, not, ◌&&◌, ◌||◌, ℕ, ◌/◌, ◌%◌, eqb, ltb, leb, if◌then◌else◌}
 use Rattle.device.specs.Parts.{size_of}
 use Rattle.device.specs.declared.Device.{Device}
 use Rattle.model_types.specs.declared.Mode.{Mode}

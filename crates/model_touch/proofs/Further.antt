@@ -9,7 +9,7 @@ use lib.ListN.{length}
 use lib.Seq.{ext_get_or}
 use lib.Dec.{eqb, ltb, leb}
 use borrow.Author.Tests.{eqb-true, eqb-false, eq-eqb, le-leb, lt-ltb}
-use Rattle.common.specs.Choice.{if◌then◌else◌}
+use Rattle.std.specs.Prelude.{if◌then◌else◌}
 use Rattle.common.specs.Lists.{Bytes}
 use Rattle.common.proofs.Choice.{and_left, and_right, unlike}
 use Rattle.units.specs.Units.{units, lent}

@@ -10,7 +10,7 @@ use lib.Seq.{length-take-le, get_or-set_same, get_or-set_other, set_out}
 use lib.Bits.{bit_and, bit_or, and_self, and_mod, and_shr}
 use lib.Dec.{eqb, ltb, leb}
 use borrow.Author.Tests.{eqb-true, eqb-false, ltb-true, ltb-false, lt-ltb, le-ltb, leb-true, leb-false, le-leb, lt-leb}
-use Rattle.common.specs.Choice.{if◌then◌else◌}
+use Rattle.std.specs.Prelude.{if◌then◌else◌}
 use Rattle.common.specs.Lists.{overlaid}
 use Rattle.common.proofs.Choice.{unlike, and_left, and_right}
 use Rattle.common.proofs.Bytes.{overlaid_before, overlaid_after}

@@ -7,7 +7,7 @@ use lib.Dec.{eqb}
 use lib.IntN.{ℤ}
 use lib.Signed.{lt_z}
 use lib.Ieee.{Float, binary64, of_int}
-use Rattle.common.specs.Choice.{if◌then◌else◌}
+use Rattle.std.specs.Prelude.{if◌then◌else◌}
 use Rattle.common.proofs.Choice.{if_ap}
 use Rattle.file_codec.specs.File.{Outcome, refused, made}
 use Rattle.reading_pair.specs.Pairs.{interpolated}

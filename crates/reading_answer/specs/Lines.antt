@@ -1,6 +1,5 @@
 -- The line that a reading prints.
-use Rattle.std.specs.Prelude.{Bool, not, ◌||◌, List, ◌++◌, ℕ, eqb, Float, length, get_or}
-use Rattle.common.specs.Choice.{if◌then◌else◌}
+use Rattle.std.specs.Prelude.{Bool, not, ◌||◌, List, ◌++◌, ℕ, eqb, Float, length, get_or, if◌then◌else◌}
 use Rattle.text.specs.Writing.{bytes}
 use Rattle.refusal_words.specs.Words.{file_words, refused_text}
 use Rattle.file_codec.specs.File.{limit, in_room, left_in, reader_of}

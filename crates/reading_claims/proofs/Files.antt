@@ -9,7 +9,7 @@ use lib.Dec.{eqb, ltb}
 use lib.IntN.{ℤ}
 use lib.ListN.{length, get_or, drop, replicate}
 use borrow.Author.Tests.{eqb-true, eqb-false, le-ltb}
-use Rattle.common.specs.Choice.{if◌then◌else◌}
+use Rattle.std.specs.Prelude.{if◌then◌else◌}
 use Rattle.common.proofs.Choice.{if_true, if_false}
 use Rattle.common.specs.Numbers.{Row, row, given, Foremost, NoRow, numbered}
 use Rattle.common.proofs.Numbers.{given_append, given_foremost, given_no_row}

@@ -9,7 +9,7 @@ use lib.Dec.{T, eqb, ltb}
 use lib.IntN.{ℤ}
 use lib.Signed.{le_z, lt_z, ◌≤ℤ◌, ◌<ℤ◌, clash_ℤ}
 use borrow.Author.Tests.{ne_eqb, eqb-false, ltb-true, ltb-false}
-use Rattle.common.specs.Choice.{if◌then◌else◌}
+use Rattle.std.specs.Prelude.{if◌then◌else◌}
 use Rattle.reading_table.specs.Table.{knots, volts_of}
 use Rattle.reading_table.specs.Search.{seek_of}
 use Rattle.reading_table.proofs.Order.{le_trans}

@@ -1,9 +1,8 @@
 -- A payload that is a table, and the pair of its knots that holds a voltage.
-use Rattle.std.specs.Prelude.{◌≡◌, List, ℕ, ◌+◌, ◌-◌, ◌%◌, ◌≤◌, ◌<◌, T, eqb, ℤ, length, Float}
+use Rattle.std.specs.Prelude.{◌≡◌, List, ℕ, ◌+◌, ◌-◌, ◌%◌, ◌≤◌, ◌<◌, T, eqb, ℤ, length, Float, if◌then◌else◌}
 use Rattle.std.specs.Int.Signed.{le_z, lt_z}
 use Rattle.std.specs.Float.{binary64}
 use Rattle.std.specs.Float.Ieee.{of_int}
-use Rattle.common.specs.Choice.{if◌then◌else◌}
 use Rattle.reading_pair.specs.Pairs.{interpolated}
 use Rattle.reading_table.specs.Table.{knots, volts_of, tenths_of, in_range, rises_to}
 use Rattle.reading.specs.Readings.{pair_at}

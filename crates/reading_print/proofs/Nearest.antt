@@ -7,7 +7,7 @@ use lib.Ieee.Exact.{HasValue, round_exact}
 use lib.Ieee.Nearest.{div_same}
 use lib.Ieee.Fits.{up_pos, down_pos, and_l, and_r}
 use borrow.Author.Tests.{eqb-false}
-use Rattle.common.specs.Choice.{if◌then◌else◌}
+use Rattle.std.specs.Prelude.{if◌then◌else◌}
 use Rattle.common.proofs.Choice.{if_true, if_false, if_ind, or_left, or_right, and_none, unlike}
 use Rattle.reading_print.specs.Texts.{is_under, size_shown, whole_of, tenths_shown, NearestTo}
 use Rattle.reading_print.proofs.Shown.{whole_in, shown_in}

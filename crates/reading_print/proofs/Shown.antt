@@ -1,7 +1,7 @@
 -- The whole tenths nearest to a temperature, way by way.
 use Rattle.std.proofs.Common.{◌≡◌, ℕ, ◌+◌, ◌/◌, ◌<◌, ◌≤◌, Bool, true, false, ltb, pos, sym, ap, ◌∙◌, le-ltb, lt-ltb}
 use lib.Ieee.{Float, fin, binary64, add, lt, to_unsigned}
-use Rattle.common.specs.Choice.{if◌then◌else◌}
+use Rattle.std.specs.Prelude.{if◌then◌else◌}
 use Rattle.common.proofs.Choice.{if_true, if_false}
 use Rattle.reading_print.specs.Texts.{size_shown, whole_of, tenths_shown}
 

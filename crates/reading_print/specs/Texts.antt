@@ -1,8 +1,7 @@
 -- A knot and a temperature as text.
-use Rattle.std.specs.Prelude.{ℕ, ◌+◌, ◌*◌, ◌/◌, ◌%◌, ◌<◌, ◌≤◌, Bool, true, false, List, [], ◌∷◌, ◌++◌, ℤ, pos, negsuc, int_lt, nat_lt, unsigned_abs, Float}
+use Rattle.std.specs.Prelude.{ℕ, ◌+◌, ◌*◌, ◌/◌, ◌%◌, ◌<◌, ◌≤◌, Bool, true, false, List, [], ◌∷◌, ◌++◌, ℤ, pos, negsuc, int_lt, nat_lt, unsigned_abs, Float, if◌then◌else◌}
 use Rattle.std.specs.Float.{fin, binary64}
 use Rattle.std.specs.Float.Ieee.{add, neg, lt, le, to_unsigned}
-use Rattle.common.specs.Choice.{if◌then◌else◌}
 use Rattle.text.specs.Digits.{decimal_of}
 
 -- with a minus before it where it is negative

@@ -12,7 +12,7 @@ use lib.ListN.{get_or}
 use lib.Signed.{le_z, lt_z}
 use Rattle.common.proofs.Choice.{if_ind}
 use borrow.Author.Tests.{ne_eqb}
-use Rattle.common.specs.Choice.{if◌then◌else◌}
+use Rattle.std.specs.Prelude.{if◌then◌else◌}
 use Rattle.reading_table.specs.Table.{signed16, word16, volts_of, tenths_of, in_range, good_at, rising_from, rising_of, knots}
 
 -- tests

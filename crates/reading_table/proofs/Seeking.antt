@@ -11,7 +11,7 @@ use lib.Pow.{pow_pos}
 use lib.IntN.{ℤ}
 use lib.Signed.{le_z, lt_z}
 use borrow.Author.Tests.{ltb-true, ltb-false}
-use Rattle.common.specs.Choice.{if◌then◌else◌}
+use Rattle.std.specs.Prelude.{if◌then◌else◌}
 use Rattle.reading_table.specs.Table.{volts_of, knots}
 use Rattle.reading_table.specs.Search.{halving, seek_of}
 use Rattle.reading_table.proofs.Order.{not_le, lt_le}

@@ -1,6 +1,5 @@
 -- The knot at fault in a table.
-use Rattle.std.specs.Prelude.{List, ℕ, zero, suc, ◌+◌}
-use Rattle.common.specs.Choice.{if◌then◌else◌}
+use Rattle.std.specs.Prelude.{List, ℕ, zero, suc, ◌+◌, if◌then◌else◌}
 use Rattle.reading_table.specs.Table.{knots, good_at}
 
 -- from knot i on, with k to go: the first that is not good; where there is none, the one behind the last

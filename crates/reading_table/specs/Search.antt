@@ -1,7 +1,6 @@
 -- The pair of knots for a voltage, found by halving.
-use Rattle.std.specs.Prelude.{List, ℕ, zero, suc, ◌+◌, ◌-◌, ◌/◌, ◌^◌, ltb, ℤ}
+use Rattle.std.specs.Prelude.{List, ℕ, zero, suc, ◌+◌, ◌-◌, ◌/◌, ◌^◌, ltb, ℤ, if◌then◌else◌}
 use Rattle.std.specs.Int.Signed.{le_z}
-use Rattle.common.specs.Choice.{if◌then◌else◌}
 use Rattle.reading_table.specs.Table.{volts_of, knots}
 
 -- between knots lo and hi, in at most k halvings: the half whose lower end is not above x

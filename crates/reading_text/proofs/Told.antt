@@ -3,7 +3,7 @@ use mathlib.Core.Path.{◌≡◌, refl, ap, ◌∙◌}
 use mathlib.Core.Bool.{Bool, true, false, ◌||◌}
 use mathlib.Core.List.{List, [], ◌∷◌}
 use Prim.Native.Nat.{ℕ, ◌+◌}
-use Rattle.common.specs.Choice.{if◌then◌else◌}
+use Rattle.std.specs.Prelude.{if◌then◌else◌}
 use Rattle.common.proofs.Choice.{if_ap}
 use Rattle.reading_text.specs.declared.NumberRead.{NumberRead}
 use Rattle.reading_text.specs.declared.NumberRead.TheVariants.{Whole, NoNumber}

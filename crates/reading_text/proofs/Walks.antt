@@ -11,7 +11,7 @@ use lib.ListN.{length, get_or, take, drop, drop_of_length-le}
 use lib.Seq.{drop-cons}
 use borrow.Author.Tests.{leb-false, ltb-true}
 use borrow.Rule.Slice.PartMut.{put_mid}
-use Rattle.common.specs.Choice.{if◌then◌else◌}
+use Rattle.std.specs.Prelude.{if◌then◌else◌}
 use Rattle.common.specs.Lists.{overlaid}
 use Rattle.common.proofs.Choice.{if_ind, if_true, if_false, or_right, and_right}
 use Rattle.reading_text.specs.declared.Number.{Number}

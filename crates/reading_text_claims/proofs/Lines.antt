@@ -10,7 +10,7 @@ use lib.Signed.{lt_z}
 use lib.ListN.{length, get_or, take, drop}
 use lib.Seq.{drop-cons}
 use borrow.Author.Tests.{le-ltb, le-leb, lt-leb, ltb-true, ltb-false}
-use Rattle.common.specs.Choice.{if◌then◌else◌}
+use Rattle.std.specs.Prelude.{if◌then◌else◌}
 use Rattle.common.specs.Lists.{Bytes}
 use Rattle.reading_table.specs.Table.{knots, word32, word16, signed32, signed16, volts_of, tenths_of}
 use Rattle.reading_table.proofs.Places.{volts_in, tenths_in}

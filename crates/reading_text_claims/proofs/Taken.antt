@@ -8,7 +8,7 @@ use native.Mathlib.Omega.{arith}
 use lib.Dec.{eqb, leb}
 use lib.ListN.{length}
 use borrow.Author.Tests.{lt-leb, leb-true, leb-false, ne_eqb, eqb-true, not-false}
-use Rattle.common.specs.Choice.{if◌then◌else◌}
+use Rattle.std.specs.Prelude.{if◌then◌else◌}
 use Rattle.common.specs.Lists.{overlaid}
 use Rattle.common.proofs.Choice.{if_true, if_false, if_ind, and_left, and_right, or_left, or_right, unlike}
 use Rattle.common.proofs.Bytes.{overlaid_length}

@@ -1,6 +1,5 @@
 -- Which texts are numbers, and which are tables, told without the reader.
-use Rattle.std.specs.Prelude.{◌≡◌, Bool, true, ◌&&◌, List, [], ◌∷◌, ◌++◌, ℕ, ◌+◌, ◌*◌, ◌<◌, leb, length}
-use Rattle.common.specs.Choice.{if◌then◌else◌}
+use Rattle.std.specs.Prelude.{◌≡◌, Bool, true, ◌&&◌, List, [], ◌∷◌, ◌++◌, ℕ, ◌+◌, ◌*◌, ◌<◌, leb, length, if◌then◌else◌}
 use Rattle.text.specs.Digits.{is_digit, digit_of}
 
 -- digits, and nothing else

@@ -1,7 +1,6 @@
 -- How the code asks: what bars a start, and what a judged cycle shows before anything is stored. Not part of what a buyer must
 -- believe.
-use Rattle.std.specs.Prelude.{Bool, true, false, not, ◌&&◌, List, ℕ, eqb}
-use Rattle.common.specs.Choice.{if◌then◌else◌}
+use Rattle.std.specs.Prelude.{Bool, true, false, not, ◌&&◌, List, ℕ, eqb, if◌then◌else◌}
 use Rattle.device.specs.declared.Part.{Part}
 use Rattle.device.specs.declared.Device.{Device}
 use Rattle.model_types.specs.declared.Cycle.{Cycle}

@@ -1,6 +1,5 @@
 -- Recordings: one record judged in a world, without a list. The world is the device's state and the lent bytes.
-use Rattle.std.specs.Prelude.{Bool, true, false, not, ◌&&◌, ◌||◌, List, [], ℕ, length, eqb, ltb}
-use Rattle.common.specs.Choice.{if◌then◌else◌}
+use Rattle.std.specs.Prelude.{Bool, true, false, not, ◌&&◌, ◌||◌, List, [], ℕ, length, eqb, ltb, if◌then◌else◌}
 use Rattle.units.specs.Units.{lent, lent_in}
 use Rattle.device.specs.declared.Part.{Part}
 use Rattle.device.specs.declared.Device.{Device}

@@ -8,7 +8,7 @@ use lib.Dec.{ltb}
 use lib.ListN.{length, get_or, take, drop}
 use lib.Seq.{take_all, take_at, drop_at}
 use borrow.Author.Tests.{ltb-true, ltb-false}
-use Rattle.common.specs.Choice.{if◌then◌else◌}
+use Rattle.std.specs.Prelude.{if◌then◌else◌}
 use Rattle.common.proofs.Choice.{if_ind}
 use Rattle.text.specs.Digits.{digit_letter, spelled}
 use Rattle.text.proofs.Spelling.{spelled_length, spelled_before, spelled_tail}

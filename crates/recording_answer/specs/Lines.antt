@@ -1,6 +1,5 @@
 -- What is said of a recording: a fault with its line, what was seen and what the rules give; a line that is none; the end; acceptance.
-use Rattle.std.specs.Prelude.{List, [], ◌∷◌, ◌++◌, ℕ, suc, eqb, ltb, length}
-use Rattle.common.specs.Choice.{if◌then◌else◌}
+use Rattle.std.specs.Prelude.{List, [], ◌∷◌, ◌++◌, ℕ, suc, eqb, ltb, length, if◌then◌else◌}
 use Rattle.text.specs.Digits.{spelled, decimal_of}
 use Rattle.text.specs.Writing.{bytes}
 use Rattle.model_types.specs.declared.Phase.{Phase}

@@ -7,7 +7,7 @@ use native.Mathlib.Omega.{arith}
 use lib.Dec.{eqb, ltb}
 use lib.ListN.{length, get_or}
 use borrow.Author.Tests.{eq-eqb, le-ltb, eqb-false, not-true}
-use Rattle.common.specs.Choice.{if◌then◌else◌}
+use Rattle.std.specs.Prelude.{if◌then◌else◌}
 use Rattle.common.proofs.Choice.{if_true, if_false, and_left, and_right, or_left, or_right, unlike}
 use Rattle.units.specs.Units.{units, lent, back}
 use Rattle.device.specs.declared.Part.{Part}

@@ -1,6 +1,5 @@
 -- A recording as a text: the records that its good lines state, its first bad line, and how it is judged on bench T.
-use Rattle.std.specs.Prelude.{List, [], ◌∷◌, ℕ, zero, suc, ◌+◌, ◌*◌, ltb, length, take, drop}
-use Rattle.common.specs.Choice.{if◌then◌else◌}
+use Rattle.std.specs.Prelude.{List, [], ◌∷◌, ℕ, zero, suc, ◌+◌, ◌*◌, ltb, length, take, drop, if◌then◌else◌}
 use Rattle.model_states.specs.States.{fresh_state}
 use Rattle.recording.specs.declared.Noted.{Noted}
 use Rattle.recording_lines.specs.Records.{is_record, record_stated}

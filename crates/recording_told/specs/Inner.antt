@@ -1,7 +1,6 @@
 -- How the code tells it: by the judgement of the whole text, and the record of a line read once more. Not part of what a buyer must
 -- believe.
-use Rattle.std.specs.Prelude.{List, ℕ, ◌+◌, ◌*◌, eqb, ltb, take, drop}
-use Rattle.common.specs.Choice.{if◌then◌else◌}
+use Rattle.std.specs.Prelude.{List, ℕ, ◌+◌, ◌*◌, eqb, ltb, take, drop, if◌then◌else◌}
 use Rattle.model_types.specs.declared.State.{State}
 use Rattle.recording.specs.declared.Noted.{Noted}
 use Rattle.recording.specs.Recordings.{why_of}

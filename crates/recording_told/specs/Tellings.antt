@@ -1,7 +1,6 @@
 -- What is said of a recording as a text, judged on bench T from a fresh device: the first thing that is wrong, by its line, or that it is
 -- accepted.
-use Rattle.std.specs.Prelude.{Bool, List, [], ◌∷◌, ◌++◌, ℕ, suc, eqb, length}
-use Rattle.common.specs.Choice.{if◌then◌else◌}
+use Rattle.std.specs.Prelude.{Bool, List, [], ◌∷◌, ◌++◌, ℕ, suc, eqb, length, if◌then◌else◌}
 use Rattle.text.specs.Writing.{bytes}
 use Rattle.refusal_words.specs.Words.{refused_text}
 use Rattle.device.specs.declared.Device.{Device}

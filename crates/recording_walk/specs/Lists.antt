@@ -1,6 +1,5 @@
 -- A recording, a list of records: where the records lead, the first at fault, and what the check of it answers.
-use Rattle.std.specs.Prelude.{Bool, true, false, not, ◌&&◌, List, [], ◌∷◌, ℕ, suc, eqb, length, take}
-use Rattle.common.specs.Choice.{if◌then◌else◌}
+use Rattle.std.specs.Prelude.{Bool, true, false, not, ◌&&◌, List, [], ◌∷◌, ℕ, suc, eqb, length, take, if◌then◌else◌}
 use Rattle.common.specs.Numbers.{Row, row, given}
 use Rattle.units.specs.Units.{lent_in}
 use Rattle.device.specs.declared.Device.{Device}

@@ -1,6 +1,5 @@
 -- The wear that a whole recording leaves: the counts of the state that its judgement leaves on a blank bench T, or its first fault.
-use Rattle.std.specs.Prelude.{Bool, List, [], ◌∷◌, ℕ, ◌+◌, eqb, ltb, get_or, replicate}
-use Rattle.common.specs.Choice.{if◌then◌else◌}
+use Rattle.std.specs.Prelude.{Bool, List, [], ◌∷◌, ℕ, ◌+◌, eqb, ltb, get_or, replicate, if◌then◌else◌}
 use Rattle.model_types.specs.declared.Wear.{Wear}
 use Rattle.recording_text.specs.declared.Judged.{Judged}
 use Rattle.recording_text.specs.Texts.{judged_of}

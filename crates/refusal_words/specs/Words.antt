@@ -1,6 +1,5 @@
 -- A refusal by its number, and what a refusal of a load file means, in words.
-use Rattle.std.specs.Prelude.{List, ◌++◌, ℕ, eqb}
-use Rattle.common.specs.Choice.{if◌then◌else◌}
+use Rattle.std.specs.Prelude.{List, ◌++◌, ℕ, eqb, if◌then◌else◌}
 use Rattle.text.specs.Digits.{decimal_of}
 use Rattle.text.specs.Writing.{bytes}
 

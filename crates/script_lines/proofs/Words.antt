@@ -8,7 +8,7 @@ use lib.Dec.{eqb, eqb-suc-zero}
 use lib.ListN.{length, take, drop, length-take, length-drop, get_or}
 use lib.Seq.{take_all, take-take, get_or-take}
 use borrow.Author.Tests.{eqb-true, eqb-false, eq-eqb}
-use Rattle.common.specs.Choice.{if◌then◌else◌}
+use Rattle.std.specs.Prelude.{if◌then◌else◌}
 use Rattle.common.proofs.Choice.{unlike}
 use Rattle.text.specs.Digits.{digit_of}
 use Rattle.trace_lines.specs.Lines.{Place, fits, is_line}

@@ -1,6 +1,5 @@
 -- The word at the front of a text: which line of a script it begins with.
-use Rattle.std.specs.Prelude.{Bool, true, false, List, [], ◌∷◌, ℕ, ◌+◌, ◌*◌, eqb, length, take, get_or}
-use Rattle.common.specs.Choice.{if◌then◌else◌}
+use Rattle.std.specs.Prelude.{Bool, true, false, List, [], ◌∷◌, ℕ, ◌+◌, ◌*◌, eqb, length, take, get_or, if◌then◌else◌}
 use Rattle.text.specs.Digits.{digit_of}
 use Rattle.trace_lines.specs.Lines.{Place, a_digit, exactly, fits, space, newline, is_line}
 use Rattle.script_lines.specs.declared.Word.{Word}

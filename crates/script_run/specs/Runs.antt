@@ -1,6 +1,5 @@
 -- A script run: its output and the array that it leaves, by the replay of its lines written out.
-use Rattle.std.specs.Prelude.{List, ℕ, eqb}
-use Rattle.common.specs.Choice.{if◌then◌else◌}
+use Rattle.std.specs.Prelude.{List, ℕ, eqb, if◌then◌else◌}
 use Rattle.script_lines.specs.Scripts.{lines_written, trace_of}
 use Rattle.script_judge.specs.Judges.{script_judged}
 use Rattle.script_judge.specs.Reads.{script_in}

@@ -1,6 +1,5 @@
 -- The store on a part: which numbers are given and in which order, what is returned, and what is left in everything lent.
-use Rattle.std.specs.Prelude.{Bool, not, ◌||◌, true, List, [], ◌∷◌, ◌++◌, ℕ, ◌/◌, length, take, drop, eqb}
-use Rattle.common.specs.Choice.{if◌then◌else◌}
+use Rattle.std.specs.Prelude.{Bool, not, ◌||◌, true, List, [], ◌∷◌, ◌++◌, ℕ, ◌/◌, length, take, drop, eqb, if◌then◌else◌}
 use Rattle.common.specs.Numbers.{Row, row, given}
 use Rattle.device.specs.declared.Part.{Part}
 use Rattle.device.specs.declared.Device.{Device}

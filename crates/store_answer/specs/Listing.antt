@@ -1,8 +1,7 @@
 -- What a store holds, as text: a map of the places, and a row for each file.
-use Rattle.std.specs.Prelude.{Bool, true, false, List, [], ◌∷◌, ◌++◌, ℕ, zero, suc, ◌+◌, ◌-◌, ◌*◌, ◌/◌, ◌%◌, min, eqb, ltb, leb, length, take, drop}
+use Rattle.std.specs.Prelude.{Bool, true, false, List, [], ◌∷◌, ◌++◌, ℕ, zero, suc, ◌+◌, ◌-◌, ◌*◌, ◌/◌, ◌%◌, min, eqb, ltb, leb, length, take, drop, if◌then◌else◌}
 use Rattle.std.specs.Float.{binary64}
 use Rattle.std.specs.Float.Ieee.{of_int}
-use Rattle.common.specs.Choice.{if◌then◌else◌}
 use Rattle.text.specs.Digits.{decimal_of}
 use Rattle.text.specs.Writing.{bytes}
 use Rattle.file_codec.specs.File.{Outcome, refused, made, limit, in_room, reader_of}

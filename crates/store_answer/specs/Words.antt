@@ -1,6 +1,5 @@
 -- What is said of a store's word: a refusal by its number and words, and how a change ended.
-use Rattle.std.specs.Prelude.{List, ◌++◌, ℕ, eqb}
-use Rattle.common.specs.Choice.{if◌then◌else◌}
+use Rattle.std.specs.Prelude.{List, ◌++◌, ℕ, eqb, if◌then◌else◌}
 use Rattle.text.specs.Writing.{bytes}
 use Rattle.refusal_words.specs.Words.{refused_text}
 use Rattle.reading_answer.specs.Lines.{read_words}

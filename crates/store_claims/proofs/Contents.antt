@@ -8,7 +8,7 @@ use lib.ListN.{length, get_or, drop, replicate}
 use lib.Dec.{eqb}
 use lib.Bits.{bit_and}
 use borrow.Author.Tests.{eq-eqb}
-use Rattle.common.specs.Choice.{if◌then◌else◌}
+use Rattle.std.specs.Prelude.{if◌then◌else◌}
 use Rattle.common.specs.Lists.{Bytes}
 use Rattle.loader_walk.specs.Walks.{rises, rises_in}
 use Rattle.store_places.specs.Store.{Judgement, Reader, join, zeroed, Item, blank, dead, filed, junk, places_of, live_in, dead_of, kept_of, without, blank_run, laid_in, files_of, run_for, slid_in, added_in, places_in, items_in, drop_of, add_of, Proper}

@@ -1,6 +1,5 @@
 -- Calls of the store on one device, one after the other: each an add or a drop made by its run, or refused.
-use Rattle.std.specs.Prelude.{◌≡◌, List, [], ◌∷◌, ◌++◌, true, false, ℕ, ◌+◌, ◌/◌, ◌≤◌, ◌<◌, length, get_or, eqb, ltb}
-use Rattle.common.specs.Choice.{if◌then◌else◌}
+use Rattle.std.specs.Prelude.{◌≡◌, List, [], ◌∷◌, ◌++◌, true, false, ℕ, ◌+◌, ◌/◌, ◌≤◌, ◌<◌, length, get_or, eqb, ltb, if◌then◌else◌}
 use Rattle.common.specs.Lists.{Bytes}
 use Rattle.device.specs.declared.Part.{Part}
 use Rattle.device.specs.declared.Device.{Device}

@@ -8,7 +8,7 @@ use lib.ListN.{length, get_or, take, drop, set, length-append}
 use lib.Seq.{set_at, drop-drop}
 use lib.Dec.{eqb}
 use borrow.Author.Tests.{eqb-true}
-use Rattle.common.specs.Choice.{if◌then◌else◌}
+use Rattle.std.specs.Prelude.{if◌then◌else◌}
 use Rattle.common.proofs.Choice.{if_true, if_false}
 use Rattle.store_places.specs.Store.{Judgement, Reader, join, blank_place, zeroed, Item, blank, dead, filed, junk, places_of, proper_in, has_in, find_in, dead_of, kept_of, without, fits_in, laid_in, run_for, slid_in, added_in, places_in, items_in, drop_of, add_of, Proper}
 use Rattle.store_contents.specs.Inner.{zeroed_from}

@@ -10,7 +10,7 @@ use Rattle.common.specs.Lists.{copied, overlaid}
 use Rattle.common.proofs.Lists.{copied_whole}
 use Rattle.common.proofs.Bytes.{overlaid_length}
 use mathlib.Core.Bool.{true, false}
-use Rattle.common.specs.Choice.{if◌then◌else◌}
+use Rattle.std.specs.Prelude.{if◌then◌else◌}
 use Rattle.common.proofs.Choice.{if_true, if_false}
 use Rattle.store_contents.specs.Inner.{goes_of, stay_of, behind_of}
 

@@ -6,7 +6,7 @@ use Prim.Native.Nat.{ℕ, ◌+◌, ◌*◌, ◌-◌, ◌/◌}
 use native.Mathlib.Omega.{arith}
 use lib.ListN.{length, get_or, replicate}
 use lib.Dec.{eqb}
-use Rattle.common.specs.Choice.{if◌then◌else◌}
+use Rattle.std.specs.Prelude.{if◌then◌else◌}
 use Rattle.common.proofs.Choice.{if_true, if_false}
 use Rattle.store_places.specs.Store.{Judgement, Reader, join, Item, blank, dead, filed, junk, places_of, live_in, dead_of, kept_of, without, laid_in, files_of, slid_in, run_for, added_in, places_in, items_in, add_of, Proper}
 use Rattle.store_contents.specs.Inner.{live_bytes}

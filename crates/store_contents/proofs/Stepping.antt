@@ -9,7 +9,7 @@ use lib.Seq.{take_at, drop_at, drop-drop, get_or-drop, length-take-le}
 use borrow.Rule.Slice.PartMut.{mid_of}
 use lib.Dec.{eqb}
 use borrow.Author.Tests.{eqb-true, eq-eqb, ne_eqb}
-use Rattle.common.specs.Choice.{if◌then◌else◌}
+use Rattle.std.specs.Prelude.{if◌then◌else◌}
 use Rattle.common.proofs.Choice.{if_true, if_false}
 use Rattle.store_places.specs.Store.{Judgement, Reader, join, blank_place, is_dead, Item, blank, dead, filed, junk, places_of, items_in, Proper}
 use Rattle.store_places.proofs.Places.{join_append, join_length, join_first, blank_length}

@@ -1,6 +1,5 @@
 -- The new contents of a block, into memory of its length: the refusals, and what is left in memory.
-use Rattle.std.specs.Prelude.{Bool, not, List, [], ◌∷◌, ℕ, ◌/◌, length, eqb}
-use Rattle.common.specs.Choice.{if◌then◌else◌}
+use Rattle.std.specs.Prelude.{Bool, not, List, [], ◌∷◌, ℕ, ◌/◌, length, eqb, if◌then◌else◌}
 use Rattle.common.specs.Numbers.{Row, row, given}
 use Rattle.file_codec.specs.File.{limit, read_rows}
 use Rattle.store_places.specs.Store.{is_proper, no_room, places_in}

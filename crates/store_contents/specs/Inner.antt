@@ -1,6 +1,5 @@
 -- The new contents of a block, told by its bytes, as the code makes them. Nobody has to believe these.
-use Rattle.std.specs.Prelude.{List, [], ◌∷◌, ◌++◌, ℕ, zero, suc, ◌+◌, ◌*◌, ◌-◌, Bool, ◌||◌, length, get_or, take, set, replicate, eqb}
-use Rattle.common.specs.Choice.{if◌then◌else◌}
+use Rattle.std.specs.Prelude.{List, [], ◌∷◌, ◌++◌, ℕ, zero, suc, ◌+◌, ◌*◌, ◌-◌, Bool, ◌||◌, length, get_or, take, set, replicate, eqb, if◌then◌else◌}
 use Rattle.store_places.specs.Store.{join, Item, blank, dead, filed, junk}
 
 -- 00H over the first byte of k places, the first of them at byte `from`

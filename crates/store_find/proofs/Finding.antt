@@ -7,7 +7,7 @@ use native.Mathlib.Omega.{arith}
 use lib.ListN.{length, take, drop, length-append}
 use lib.Dec.{eqb}
 use borrow.Author.Tests.{eq-eqb, ne_eqb}
-use Rattle.common.specs.Choice.{if◌then◌else◌}
+use Rattle.std.specs.Prelude.{if◌then◌else◌}
 use Rattle.common.proofs.Choice.{if_false}
 use Rattle.store_places.specs.Store.{Judgement, Reader, join, Item, blank, dead, filed, junk, places_of, has_in, find_in, items_in, find_of, Proper}
 use Rattle.store_places.proofs.Places.{Whole, join_length}

@@ -8,7 +8,7 @@ use lib.ListN.{length, take, drop, length-append}
 use lib.Seq.{take_at, drop_at, take-nil, drop-nil, take-append_seam, take-append-add, drop-append-add}
 use Rattle.store_places.proofs.Places.{Whole}
 use lib.Dec.{eqb}
-use Rattle.common.specs.Choice.{if◌then◌else◌}
+use Rattle.std.specs.Prelude.{if◌then◌else◌}
 use Rattle.common.proofs.Choice.{if_true, if_false}
 use Rattle.store_places.specs.Store.{Judgement, Reader, join, blank_place, Item, blank, dead, filed, junk, more_of, places_of, has_in, find_in, dead_of, kept_of, without, blank_run, fits_in, laid_in}
 use Rattle.store_survey.specs.Survey.{start_in, place_in}

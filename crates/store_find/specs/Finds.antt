@@ -1,6 +1,5 @@
 -- Where the file under a letter stands in a block, and what is found and read there.
-use Rattle.std.specs.Prelude.{Bool, not, List, [], ◌∷◌, ℕ, ◌*◌, ◌%◌, length, eqb}
-use Rattle.common.specs.Choice.{if◌then◌else◌}
+use Rattle.std.specs.Prelude.{Bool, not, List, [], ◌∷◌, ℕ, ◌*◌, ◌%◌, length, eqb, if◌then◌else◌}
 use Rattle.common.specs.Numbers.{Row, row, given}
 use Rattle.file_codec.specs.File.{Outcome, refused, made, outcome_by, limit, reader_of}
 use Rattle.store_places.specs.Store.{find_of, find_rows}

@@ -7,7 +7,7 @@ use native.Mathlib.Omega.{arith}
 use lib.ListN.{length, drop, replicate, length-append}
 use lib.Dec.{eqb}
 use borrow.Author.Tests.{eqb-true, eqb-false, ne_eqb, ltb-false}
-use Rattle.common.specs.Choice.{if◌then◌else◌}
+use Rattle.std.specs.Prelude.{if◌then◌else◌}
 use Rattle.common.proofs.Choice.{if_true, if_false}
 use Rattle.store_places.specs.Store.{Judgement, Item, blank, dead, filed, junk, places_of, proper_in, has_in, find_in, live_in, dead_of, kept_of, without, blank_run, fits_in, laid_in, files_of, slid_in, run_for, added_in, no_room}
 use Rattle.store_places.proofs.Places.{Whole, zeroed_dead, zeroed_length}

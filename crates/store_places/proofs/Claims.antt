@@ -8,7 +8,7 @@ use native.Mathlib.Omega.{arith}
 use lib.ListN.{length, get_or}
 use lib.Dec.{eqb, ltb}
 use borrow.Author.Tests.{eqb-true, eqb-false, eq-eqb, ne_eqb, ltb-false, ltb-true, lt-ltb, le-ltb}
-use Rattle.common.specs.Choice.{if◌then◌else◌}
+use Rattle.std.specs.Prelude.{if◌then◌else◌}
 use Rattle.common.proofs.Choice.{if_true, if_false}
 use Rattle.store_places.specs.Store.{Judgement, Reader, cut, join, Item, items_from, places_of, proper_in, has_in, find_in, live_in, without, run_for, added_in, no_room, laid_in, slid_in, places_in, items_in, is_proper, find_of, drop_of, add_of, find_place_number, add_place_number, Change, adds, drops, change_place_number, done_by, changed, changed_all, now_under, last_under, done_in, Proper}
 use Rattle.store_places.proofs.Places.{Whole, whole_cut, join_length, cut_length, join_cut, cut_join}

@@ -8,7 +8,7 @@ use native.Mathlib.Omega.{arith}
 use lib.ListN.{length, get_or, replicate, length-append}
 use lib.Dec.{eqb}
 use borrow.Author.Tests.{eqb-true, eq-eqb}
-use Rattle.common.specs.Choice.{if◌then◌else◌}
+use Rattle.std.specs.Prelude.{if◌then◌else◌}
 use Rattle.common.proofs.Choice.{if_true, if_false}
 use Rattle.store_places.specs.Store.{Judgement, Reader, join, blank_place, Item, blank, dead, filed, junk, items_from, places_of, proper_in, has_in, find_in, places_in, items_in, is_proper, find_of, Proper}
 use Rattle.store_places.proofs.Places.{whole_cut, join_append, cut_length, join_cut}

@@ -10,7 +10,7 @@ use lib.Pow.{low}
 use lib.Bits.{bit_and, and_step, and_shr, and_comm, and_self, and_mask}
 use lib.ListN.{length, get_or, drop, replicate}
 use lib.Dec.{eqb}
-use Rattle.common.specs.Choice.{if◌then◌else◌}
+use Rattle.std.specs.Prelude.{if◌then◌else◌}
 use Rattle.common.proofs.Choice.{if_true, if_false}
 use Rattle.store_places.specs.Store.{join, blank_place, zeroed, Item, blank, dead, filed, junk, places_of, dead_of, kept_of, without, blank_run, fits_in, laid_in}
 use Rattle.store_places.proofs.Places.{Whole}

@@ -9,7 +9,7 @@ use lib.Seq.{take_at}
 use lib.Dec.{eqb}
 use borrow.Author.Tests.{eqb-true, eq-eqb, ne_eqb}
 use Rattle.file_check.specs.Check.{is_blank}
-use Rattle.common.specs.Choice.{if◌then◌else◌}
+use Rattle.std.specs.Prelude.{if◌then◌else◌}
 use Rattle.common.proofs.Choice.{if_true, if_false}
 use Rattle.store_places.specs.Store.{Judgement, Reader, join, blank_place, is_dead, Item, blank, dead, filed, junk, item_at, more_of, items_from, places_of, proper_in, has_in}
 use Rattle.store_places.proofs.Places.{Whole, whole_take, whole_append, join_length, join_first, blank_is, blank_blank, blank_alive, blank_length, blank_first}

@@ -8,7 +8,7 @@ use lib.ListN.{length, get_or, take, drop, replicate, length-append, length-drop
 use lib.Seq.{take_at, drop_at, length-take-le}
 use lib.Dec.{eqb}
 use borrow.Author.Tests.{eqb-true, eq-eqb}
-use Rattle.common.specs.Choice.{if◌then◌else◌}
+use Rattle.std.specs.Prelude.{if◌then◌else◌}
 use Rattle.common.proofs.Choice.{if_true, if_false, unlike}
 use Rattle.file_check.specs.Check.{all_are, is_blank}
 use Rattle.store_places.specs.Store.{cut, join, blank_place, is_dead, zeroed}

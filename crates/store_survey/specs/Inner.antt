@@ -1,6 +1,5 @@
 -- The walk over the places as the code makes it, a spot at a time. Nobody has to believe these.
-use Rattle.std.specs.Prelude.{List, Bool, true, false, not, ◌&&◌, ℕ, ◌+◌, ◌*◌, ◌-◌, length, get_or, take, set, eqb, ltb}
-use Rattle.common.specs.Choice.{if◌then◌else◌}
+use Rattle.std.specs.Prelude.{List, Bool, true, false, not, ◌&&◌, ℕ, ◌+◌, ◌*◌, ◌-◌, length, get_or, take, set, eqb, ltb, if◌then◌else◌}
 use Rattle.file_check.specs.Check.{all_are}
 use Rattle.file_codec.specs.File.{limit}
 use Rattle.store_survey.specs.Survey.{reader_number}

@@ -1,6 +1,5 @@
 -- What a walk over the places of a block tells, for a letter and a file of n blocks.
-use Rattle.std.specs.Prelude.{List, [], ◌∷◌, Bool, false, ℕ, ◌+◌, length, drop, eqb}
-use Rattle.common.specs.Choice.{if◌then◌else◌}
+use Rattle.std.specs.Prelude.{List, [], ◌∷◌, Bool, false, ℕ, ◌+◌, length, drop, eqb, if◌then◌else◌}
 use Rattle.common.specs.Numbers.{given}
 use Rattle.file_codec.specs.File.{limit, read_rows}
 use Rattle.store_places.specs.Store.{Judgement, Item, blank, dead, filed, junk, item_at, more_of, find_in, live_in, blank_run, fits_in, places_in}

@@ -1,7 +1,6 @@
 -- What is said of a call on a store: the words of the call, what is asked of the part, and the line, the file or the image that comes of
 -- it.
-use Rattle.std.specs.Prelude.{Bool, true, false, not, ◌||◌, List, [], ◌++◌, ℕ, min, eqb, length, get_or, take, drop}
-use Rattle.common.specs.Choice.{if◌then◌else◌}
+use Rattle.std.specs.Prelude.{Bool, true, false, not, ◌||◌, List, [], ◌++◌, ℕ, min, eqb, length, get_or, take, drop, if◌then◌else◌}
 use Rattle.text.specs.Writing.{bytes, behind}
 use Rattle.device.specs.declared.Part.{Part}
 use Rattle.device.specs.declared.Device.{Device}

@@ -1,6 +1,5 @@
 -- One bus cycle by the second engine: what a write asks for is read off the table; the rest is the first engine's.
-use Rattle.std.specs.Prelude.{List, ℕ, eqb, length}
-use Rattle.common.specs.Choice.{if◌then◌else◌}
+use Rattle.std.specs.Prelude.{List, ℕ, eqb, length, if◌then◌else◌}
 use Rattle.units.specs.Units.{units, lent, back}
 use Rattle.device.specs.declared.Part.{Part}
 use Rattle.device.specs.declared.Device.{Device}

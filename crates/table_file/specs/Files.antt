@@ -1,6 +1,5 @@
 -- The load file of a table in text, or why there is none.
-use Rattle.std.specs.Prelude.{List, ◌++◌, ℕ, ◌+◌, ◌*◌, eqb, ltb, length, get_or, take}
-use Rattle.common.specs.Choice.{if◌then◌else◌}
+use Rattle.std.specs.Prelude.{List, ◌++◌, ℕ, ◌+◌, ◌*◌, eqb, ltb, length, get_or, take, if◌then◌else◌}
 use Rattle.text.specs.Digits.{decimal_of}
 use Rattle.text.specs.Writing.{bytes}
 use Rattle.refusal_words.specs.Words.{refused_text}

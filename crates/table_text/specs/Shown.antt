@@ -1,6 +1,5 @@
 -- The table of a load file as text, or why there is none.
-use Rattle.std.specs.Prelude.{List, ◌++◌, ℕ, eqb, length, get_or}
-use Rattle.common.specs.Choice.{if◌then◌else◌}
+use Rattle.std.specs.Prelude.{List, ◌++◌, ℕ, eqb, length, get_or, if◌then◌else◌}
 use Rattle.text.specs.Writing.{bytes}
 use Rattle.refusal_words.specs.Words.{refused_text}
 use Rattle.file_codec.specs.File.{limit, Outcome, refused, made, in_room, left_in, reader_of}

@@ -9,7 +9,7 @@ use lib.ListN.{length, take, drop, length-append, length-drop, take-append-drop}
 use borrow.Author.Tests.{eq-eqb}
 use lib.Seq.{take-nil, drop-drop, take_at, drop_at, length-take-le, take_all}
 use borrow.Rule.Slice.PartMut.{put_mid, mid_of, mid_len, drop_put, same_len_mid}
-use Rattle.common.specs.Choice.{if◌then◌else◌}
+use Rattle.std.specs.Prelude.{if◌then◌else◌}
 use Rattle.common.proofs.Choice.{if_true}
 use Rattle.common.specs.Lists.{copied}
 use Rattle.common.proofs.Lists.{copied_whole}

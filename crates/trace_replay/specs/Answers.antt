@@ -1,6 +1,5 @@
 -- What a trace prints: the answer to a line, and the mark that ends a trace.
-use Rattle.std.specs.Prelude.{List, [], ◌∷◌, ℕ, ◌/◌, ◌%◌, eqb}
-use Rattle.common.specs.Choice.{if◌then◌else◌}
+use Rattle.std.specs.Prelude.{List, [], ◌∷◌, ℕ, ◌/◌, ◌%◌, eqb, if◌then◌else◌}
 use Rattle.model.specs.declared.Seen.{Seen}
 use Rattle.model.specs.declared.Seen.TheVariants.{NoData, Data, Refused}
 use Rattle.model.specs.declared.Answer.{Answer}

@@ -1,6 +1,5 @@
 -- A whole trace replayed: its output, the array that it leaves, and both where the room is too short.
-use Rattle.std.specs.Prelude.{false, ◌≡◌, List, [], ◌++◌, ℕ, zero, suc, ◌≤◌, ltb, length, take, drop}
-use Rattle.common.specs.Choice.{if◌then◌else◌}
+use Rattle.std.specs.Prelude.{false, ◌≡◌, List, [], ◌++◌, ℕ, zero, suc, ◌≤◌, ltb, length, take, drop, if◌then◌else◌}
 use Rattle.device.specs.declared.Device.{Device}
 use Rattle.model_types.specs.declared.State.{State}
 use Rattle.model_types.specs.declared.Cycle.{Cycle}

@@ -1,6 +1,5 @@
 -- The wear that a whole trace leaves: the counts of its last state, or its first bad line.
-use Rattle.std.specs.Prelude.{List, [], ◌∷◌, ℕ, zero, suc, eqb, length, take, drop}
-use Rattle.common.specs.Choice.{if◌then◌else◌}
+use Rattle.std.specs.Prelude.{List, [], ◌∷◌, ℕ, zero, suc, eqb, length, take, drop, if◌then◌else◌}
 use Rattle.model_types.specs.declared.State.{State}
 use Rattle.model_types.specs.declared.Wear.{Wear}
 use Rattle.model_states.specs.States.{fresh_state}

@@ -7,7 +7,7 @@ use native.Mathlib.Omega.{arith}
 use lib.Dec.{eqb}
 use lib.ListN.{length, take, drop}
 use borrow.Author.Tests.{ne_eqb, eqb-true}
-use Rattle.common.specs.Choice.{if◌then◌else◌}
+use Rattle.std.specs.Prelude.{if◌then◌else◌}
 use Rattle.common.proofs.Choice.{if_false}
 use Rattle.device.specs.declared.Device.{Device}
 use Rattle.model_types.specs.declared.Wear.{Wear}

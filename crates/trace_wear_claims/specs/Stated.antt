@@ -1,6 +1,5 @@
 -- Texts of traces as traces of cycles: the cycles that their lines state.
-use Rattle.std.specs.Prelude.{List, [], ◌∷◌, ℕ, zero, suc, eqb, take, drop}
-use Rattle.common.specs.Choice.{if◌then◌else◌}
+use Rattle.std.specs.Prelude.{List, [], ◌∷◌, ℕ, zero, suc, eqb, take, drop, if◌then◌else◌}
 use Rattle.model_types.specs.declared.Wear.{Wear}
 use Rattle.model_history.specs.History.{Bus}
 use Rattle.trace_lines.specs.Lines.{is_line, cycle_stated}

@@ -11,7 +11,7 @@ use lib.Bits.{bit_and, and_block}
 use lib.Dec.{eqb, leb}
 use borrow.Author.Tests.{eqb-true, eqb-false, ne_eqb, le-leb, lt-leb, leb-true, leb-false}
 use Rattle.common.specs.Lists.{overlaid, Bytes}
-use Rattle.common.specs.Choice.{if◌then◌else◌}
+use Rattle.std.specs.Prelude.{if◌then◌else◌}
 use Rattle.common.proofs.Choice.{if_true, if_false, and_left, and_right}
 use Rattle.units.specs.Units.{word_of, pairs, halves, unpaired, units, spare, back, units_in, bytes_in, torn, lent, lent_in, carried, top, erased_in, left_in}
 use Rattle.units.specs.Address.{byte_of, byte_at}

@@ -1,6 +1,5 @@
 -- Word addresses and byte addresses: neither stands for the other, and this is the one way from one to the other.
-use Rattle.std.specs.Prelude.{Bool, true, false, ℕ, ◌+◌, ◌*◌}
-use Rattle.common.specs.Choice.{if◌then◌else◌}
+use Rattle.std.specs.Prelude.{Bool, true, false, ℕ, ◌+◌, ◌*◌, if◌then◌else◌}
 use Rattle.units.specs.declared.WordAddress.{WordAddress}
 use Rattle.units.specs.declared.ByteAddress.{ByteAddress}
 

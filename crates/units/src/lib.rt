@@ -2,10 +2,9 @@
 // that knows where a unit's bytes lie.
 #![tactic(auto)]
 
-ghost use Rattle.std.specs.Prelude.{◌≡◌, ◌+◌, ◌*◌, ◌/◌, ◌%◌, ◌≤◌, ◌<◌, length, get_or, take, replicate, set, leb};
+ghost use Rattle.std.specs.Prelude.{◌≡◌, ◌+◌, ◌*◌, ◌/◌, ◌%◌, ◌≤◌, ◌<◌, length, get_or, take, replicate, set, leb, if◌then◌else◌};
 ghost use Rattle.std.specs.Int.Bits.{bit_and};
 ghost use Rattle.common.specs.Lists.{overlaid};
-ghost use Rattle.common.specs.Choice.{if◌then◌else◌};
 ghost use Rattle.units.specs.Units.{pairs, unpaired, units, spare, units_in, bytes_in, torn, lent_in, carried, top, erased_in, left_in};
 ghost use Rattle.units.specs.Address.{first_byte, byte_of, byte_at};
 

@@ -1,6 +1,5 @@
 -- Numbers read off text, and where a row ends.
-use Rattle.std.specs.Prelude.{List, [], ◌∷◌, ℕ, suc, ◌+◌, ◌*◌, ◌%◌, eqb, get_or, take, drop}
-use Rattle.common.specs.Choice.{if◌then◌else◌}
+use Rattle.std.specs.Prelude.{List, [], ◌∷◌, ℕ, suc, ◌+◌, ◌*◌, ◌%◌, eqb, get_or, take, drop, if◌then◌else◌}
 use Rattle.text.specs.Digits.{is_hex, hex_of}
 use Rattle.vectors_text.specs.declared.Group.{Group}
 

@@ -1,6 +1,5 @@
 -- The line that a verify prints: what is asked, the verify itself, and its result in words.
-use Rattle.std.specs.Prelude.{Bool, false, not, ◌&&◌, ◌||◌, List, [], ◌++◌, ℕ, min, eqb, ltb, length, get_or, take, drop, replicate}
-use Rattle.common.specs.Choice.{if◌then◌else◌}
+use Rattle.std.specs.Prelude.{Bool, false, not, ◌&&◌, ◌||◌, List, [], ◌++◌, ℕ, min, eqb, ltb, length, get_or, take, drop, replicate, if◌then◌else◌}
 use Rattle.text.specs.Digits.{is_digit, digit_of, spelled}
 use Rattle.text.specs.Writing.{bytes}
 use Rattle.refusal_words.specs.Words.{file_words, refused_text}

@@ -7,7 +7,7 @@ use Prim.Native.Nat.{ℕ}
 use lib.ListN.{length}
 use lib.Dec.{eqb}
 use borrow.Author.Tests.{ne_eqb, eqb-true}
-use Rattle.common.specs.Choice.{if◌then◌else◌}
+use Rattle.std.specs.Prelude.{if◌then◌else◌}
 use Rattle.common.specs.Numbers.{Foremost, NoRow}
 use Rattle.common.proofs.Numbers.{foremost_given, given_foremost, given_no_row, no_row_given}
 use Rattle.common.proofs.Choice.{if_false}

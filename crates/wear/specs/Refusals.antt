@@ -1,7 +1,6 @@
 -- What a report refuses: 1 an unknown device number, 11 counts that are not seven for each trace, 47 over 65,535 traces, 48 a trace from
 -- another device number.
-use Rattle.std.specs.Prelude.{Bool, true, false, not, List, [], ◌∷◌, ℕ, ◌*◌, length, eqb, ltb, leb}
-use Rattle.common.specs.Choice.{if◌then◌else◌}
+use Rattle.std.specs.Prelude.{Bool, true, false, not, List, [], ◌∷◌, ℕ, ◌*◌, length, eqb, ltb, leb, if◌then◌else◌}
 use Rattle.common.specs.Numbers.{Row, row, given}
 use Rattle.device.specs.Parts.{unknown_part}
 use Rattle.model_types.specs.declared.Wear.{Wear}

@@ -1,6 +1,5 @@
 -- What the wear program says of traces: a line for each that is not counted, and the table where all are.
-use Rattle.std.specs.Prelude.{Bool, true, false, not, ◌&&◌, List, [], ℕ, eqb, ltb, length, replicate}
-use Rattle.common.specs.Choice.{if◌then◌else◌}
+use Rattle.std.specs.Prelude.{Bool, true, false, not, ◌&&◌, List, [], ℕ, eqb, ltb, length, replicate, if◌then◌else◌}
 use Rattle.model_types.specs.declared.Wear.{Wear}
 use Rattle.trace_wear.specs.declared.Worn.{Worn}
 use Rattle.trace_wear.specs.declared.Worn.TheVariants.{Counted, BadLine}

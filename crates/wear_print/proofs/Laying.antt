@@ -8,7 +8,7 @@ use lib.ListN.{length, take, drop, set, length-append}
 use lib.Seq.{sets-eq, drop-drop, take_at, drop_at, take_all, length-take-le}
 use borrow.Author.Tests.{lt-ltb, le-ltb}
 use borrow.Rule.Slice.PartMut.{put_mid, mid_of, mid_len}
-use Rattle.common.specs.Choice.{if◌then◌else◌}
+use Rattle.std.specs.Prelude.{if◌then◌else◌}
 use Rattle.common.specs.Lists.{copied, overlaid}
 use Rattle.common.proofs.Choice.{if_true, if_false}
 use Rattle.text.specs.Digits.{spelled, digit_letter}

@@ -1,7 +1,6 @@
 -- The report on wear as a table in text: a header, and a line for each of bench T's four blocks; and the line of a
 -- trace that is not in it.
-use Rattle.std.specs.Prelude.{List, [], ◌∷◌, ◌++◌, ℕ, zero, suc, ◌/◌, ltb, length, drop}
-use Rattle.common.specs.Choice.{if◌then◌else◌}
+use Rattle.std.specs.Prelude.{List, [], ◌∷◌, ◌++◌, ℕ, zero, suc, ◌/◌, ltb, length, drop, if◌then◌else◌}
 use Rattle.text.specs.Digits.{spelled}
 use Rattle.wear.specs.declared.Tally.{Tally}
 use Rattle.wear.specs.declared.Report.{Report}

@@ -8,7 +8,7 @@ use Rattle.model_rules.specs.Cycles.{code_place, identifier_of}
 use Rattle.c_cycle.specs.Values.{device_in}
 use Rattle.c_cycle.specs.declared.AnswerNumbers.{AnswerNumbers}
 use Rattle.c_answers.specs.Answers.{refused_as, given_as}
-use Rattle.common.specs.Choice.{if◌then◌else◌}
+use Rattle.std.specs.Prelude.{if◌then◌else◌}
 use Rattle.common.proofs.Choice.{if_true, if_false}
 use Rattle.c_operations.specs.Operations.{coded_as}
 use borrow.Author.Rules.{rules}

@@ -6,7 +6,7 @@ use native.Mathlib.Omega.{arith}
 use lib.Bits.{and_le_l}
 use lib.Dec.{eqb}
 use lib.ListN.{drop, drop_of_length-le, get_or}
-use Rattle.common.specs.Choice.{if◌then◌else◌}
+use Rattle.std.specs.Prelude.{if◌then◌else◌}
 use Rattle.file_check.specs.Check.{all_are}
 use Rattle.file_check.proofs.Walks.{gathered}
 use Rattle.file_check.proofs.all_ff.Goals as goal

@@ -5,7 +5,7 @@ use native.Mathlib.Omega.{arith}
 use borrow.Author.Rules.{rules}
 use lib.ListN.{length, get_or}
 use lib.Dec.{eqb}
-use Rattle.common.specs.Choice.{if◌then◌else◌}
+use Rattle.std.specs.Prelude.{if◌then◌else◌}
 use Rattle.loader_blocks.specs.Blocks.{costs}
 use Rattle.loader_blocks.proofs.Laws.{costs_round, costs_over}
 use Rattle.loader_blocks.proofs.unlike_piece.Statement.{statement}

@@ -9,7 +9,7 @@ use borrow.Rule.Slice.PartMut.{mid_of}
 use lib.ListN.{length, get_or, take}
 use lib.Seq.{take_all}
 use lib.Dec.{eqb}
-use Rattle.common.specs.Choice.{if◌then◌else◌}
+use Rattle.std.specs.Prelude.{if◌then◌else◌}
 use Rattle.units.specs.Units.{pairs}
 use Rattle.units.proofs.Widths.{units_length}
 use Rattle.loader_blocks.specs.Blocks.{costs}

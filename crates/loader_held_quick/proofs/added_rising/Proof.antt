@@ -8,7 +8,7 @@ use lib.ListN.{length, get_or, take}
 use lib.Seq.{take-length}
 use lib.Dec.{eqb, ltb}
 use borrow.Author.Rules.{rules}
-use Rattle.common.specs.Choice.{if◌then◌else◌}
+use Rattle.std.specs.Prelude.{if◌then◌else◌}
 use Rattle.loader_held.specs.Holds.{listed}
 use Rattle.loader_held_claims.specs.HeldMade.{added_in}
 use Rattle.loader_held_quick.specs.HeldQuick.{cost_at}

@@ -1,0 +1,56 @@
+use mathlib.Core.Path.{◌≡◌, sym, ap, ◌∙◌}
+use mathlib.Core.Bool.{true, false}
+use Prim.Native.Nat.{ℕ, ◌+◌, ◌-◌, ◌≤◌, ◌<◌}
+use native.Mathlib.Omega.{arith}
+use lib.IntN.{ℤ}
+use lib.Signed.{le_z}
+use mir.Syntax.{w32}
+use mir.Val.{to_z, of_z}
+use mir.ValLaws.{to_z-of_z}
+use Rattle.reading_table.specs.Table.{volts_of}
+use Rattle.reading_table.specs.Search.{seek_of, rounds_left}
+use Rattle.reading_table.proofs.Steps.{mid, halved_start, halved_few, halved_round, halved_end}
+use Rattle.reading_table.proofs.Rounds.{rounds_fall}
+use Rattle.reading_table.proofs.seek.Goals as goal
+
+-- what the test answered
+told : (c : tie.After-at-most invariant_loop decreases_loop) → c.at_most.result ≡ le_z (volts_of c.before.before.before.before.before.before.args.s.now (mid c.before.before.before.loop.lo c.before.before.before.loop.hi)) (to_z w32 (of_z w32 c.before.before.before.before.before.before.args.x))
+told c = c.at_most.ensures ∙ ap (λ (v : ℤ). le_z v (to_z w32 (of_z w32 c.before.before.before.before.before.before.args.x))) (to_z-of_z w32 c.before.volts-at.result (record { sfits = c.before.volts-at.type-inv }) ∙ c.before.volts-at.ensures)
+
+-- either half has a round fewer to come
+lowered : (lo hi : ℕ) → hi ≤ 9223372036854775808 → lo + 1 < hi → (rounds_left (mid lo hi) hi < rounds_left lo hi) × (rounds_left lo (mid lo hi) < rounds_left lo hi)
+lowered lo hi f h =
+    (rounds_fall 63 (hi - lo) (hi - mid lo hi) (omega (arith, f)) (omega (arith, h)) (omega (arith, h)), rounds_fall 63 (hi - lo) (mid lo hi - lo) (omega (arith, f, h)) (omega (arith, h)) (omega (arith, h)))
+
+pub returns-then-n-lt2 : goal.returns-then-n-lt2
+returns-then-n-lt2 c = halved_few _ _ c.if-n-lt2.true
+
+pub loop-lo-init : goal.loop-lo-init
+loop-lo-init c = halved_start _ _ c.if-n-lt2.false
+
+pub overflow_add-lo : goal.overflow_add-lo
+overflow_add-lo c = let i = c.loop-lo.invariant in record { fits = omega (arith, i.order, i.within, c.well_formed.0.0) }
+
+pub overflow_sub-mid : goal.overflow_sub-mid
+overflow_sub-mid c = c.loop-lo.invariant.order
+
+pub overflow_add-mid : goal.overflow_add-mid
+overflow_add-mid c = let i = c.loop-lo.invariant in record { fits = omega (arith, i.order, i.within, c.well_formed.0.0, c.loop-lo-test.true) }
+
+pub volts_at-v-requires : goal.volts_at-v-requires
+volts_at-v-requires c = let i = c.loop-lo.invariant in omega (arith, i.order, i.within, c.loop-lo-test.true)
+
+pub loop-lo-smaller-then-low : goal.loop-lo-smaller-then-low
+loop-lo-smaller-then-low c = let i = c.loop-lo.invariant in (lowered c.loop-lo.lo c.loop-lo.hi (omega (arith, i.within, c.well_formed.0.0)) c.loop-lo-test.true).0
+
+pub loop-lo-preserved-then-low : goal.loop-lo-preserved-then-low
+loop-lo-preserved-then-low c = halved_round c.loop-lo.invariant c.loop-lo-test.true true (sym (told c) ∙ c.if-low.true)
+
+pub loop-lo-smaller : goal.loop-lo-smaller
+loop-lo-smaller c = let i = c.loop-lo.invariant in (lowered c.loop-lo.lo c.loop-lo.hi (omega (arith, i.within, c.well_formed.0.0)) c.loop-lo-test.true).1
+
+pub loop-lo-preserved : goal.loop-lo-preserved
+loop-lo-preserved c = halved_round c.loop-lo.invariant c.loop-lo-test.true false (sym (told c) ∙ c.if-low.false)
+
+pub returns : goal.returns
+returns c = halved_end c.loop-lo.invariant c.loop-lo-test.false ∙ ap (seek_of c.args.s.now) (to_z-of_z w32 c.args.x c.ranges.x)
