@@ -17,8 +17,8 @@ returns-then-not-known c =
     let a = c.args in
     let out = a.out.now in
     let q : in_room (length out) (writer_of limit a.letter a.payload.now) ≡ refused 32 =
-    ap (in_room (length out)) (writer_32 limit a.letter a.payload.now (sym c.is_letter-known.ensures ∙ not-true _ c.if-not-known.true)) in
-    let both = written_too (in_room (length out) (writer_of limit a.letter a.payload.now)) (sym (ap written_as q)) (sym (ap (left_in out) q)) in record { result = both.0; told = both.1; out_left = both.2 }
+    ap (in_room (length out)) (writer_32 limit a.letter a.payload.now (sym c.is_letter-known.ensures ∙ c.if-not-known.true)) in
+    let both = written_too (in_room (length out) (writer_of limit a.letter a.payload.now)) (sym (ap written_as q)) (sym (ap (left_in out) q)) in record { result = both.0; told = both.1.0; out_left = both.1.1 }
 
 pub returns-then-payload_wrong : goal.returns-then-payload_wrong
 returns-then-payload_wrong c =
@@ -26,8 +26,8 @@ returns-then-payload_wrong c =
     let out = a.out.now in
     let q : in_room (length out) (writer_of limit a.letter a.payload.now) ≡ refused 36 =
     ap (in_room (length out))
-    (writer_36 limit a.letter a.payload.now (sym c.is_letter-known.ensures ∙ not-false _ c.if-not-known.false) (sym c.payload_wrong.ensures ∙ c.if-payload_wrong.true)) in
-    let both = written_too (in_room (length out) (writer_of limit a.letter a.payload.now)) (sym (ap written_as q)) (sym (ap (left_in out) q)) in record { result = both.0; told = both.1; out_left = both.2 }
+    (writer_36 limit a.letter a.payload.now (sym c.is_letter-known.ensures ∙ c.if-not-known.false) (sym c.payload_wrong.ensures ∙ c.if-payload_wrong.true)) in
+    let both = written_too (in_room (length out) (writer_of limit a.letter a.payload.now)) (sym (ap written_as q)) (sym (ap (left_in out) q)) in record { result = both.0; told = both.1.0; out_left = both.1.1 }
 
 pub blocks_for-n-requires : goal.blocks_for-n-requires
 blocks_for-n-requires c =
@@ -42,9 +42,9 @@ returns-then-out-whole c =
     let l : length (file_of a.letter a.payload.now) ≡ 512 * n = blocks_length n a.letter 0 n a.payload.now in
     let q : in_room (length out) (writer_of limit a.letter a.payload.now) ≡ refused 37 =
     ap (in_room (length out))
-    (writer_made limit a.letter a.payload.now (sym c.is_letter-known.ensures ∙ not-false _ c.if-not-known.false) (sym c.payload_wrong.ensures ∙ c.if-payload_wrong.false))
+    (writer_made limit a.letter a.payload.now (sym c.is_letter-known.ensures ∙ c.if-not-known.false) (sym c.payload_wrong.ensures ∙ c.if-payload_wrong.false))
     ∙ room_37 (length out) (file_of a.letter a.payload.now) (omega (arith, c.if-out-whole.true)) in
-    let both = written_too (in_room (length out) (writer_of limit a.letter a.payload.now)) (sym (ap written_as q)) (sym (ap (left_in out) q)) in record { result = both.0; told = both.1; out_left = both.2 }
+    let both = written_too (in_room (length out) (writer_of limit a.letter a.payload.now)) (sym (ap written_as q)) (sym (ap (left_in out) q)) in record { result = both.0; told = both.1.0; out_left = both.1.1 }
 
 pub pack-requires : goal.pack-requires
 pack-requires c =
@@ -65,10 +65,10 @@ returns c =
     let w : length (file_of a.letter a.payload.now) ≡ 512 * c.blocks_for-n.result = omega arith in
     let q : in_room (length out) (writer_of limit a.letter a.payload.now) ≡ made (file_of a.letter a.payload.now) =
     ap (in_room (length out))
-    (writer_made limit a.letter a.payload.now (sym c.is_letter-known.ensures ∙ not-false _ c.if-not-known.false) (sym c.payload_wrong.ensures ∙ c.if-payload_wrong.false))
+    (writer_made limit a.letter a.payload.now (sym c.is_letter-known.ensures ∙ c.if-not-known.false) (sym c.payload_wrong.ensures ∙ c.if-payload_wrong.false))
     ∙ room_made (length out) (file_of a.letter a.payload.now) (omega (arith, c.if-out-whole.false)) in
     let both = written_too (in_room (length out) (writer_of limit a.letter a.payload.now)) (sym (ap written_as q ∙ ap Wrote w))
     (u.ensures
     ∙ ap (λ (j : ℕ). blocks_of j a.letter 0 j a.payload.now ++ drop (512 * c.blocks_for-n.result) out) k
     ∙ ap (λ (j : ℕ). file_of a.letter a.payload.now ++ drop j out) (sym w)
-    ∙ sym (ap (left_in out) q)) in record { result = both.0; told = both.1; out_left = both.2 }
+    ∙ sym (ap (left_in out) q)) in record { result = both.0; told = both.1.0; out_left = both.1.1 }

@@ -15,4 +15,4 @@ volts_at-v-requires c = c.requires.1
 pub returns : goal.returns
 returns c =
     c.below.ensures
-    ∙ ap₂ lt_z (to_z-of_z w32 c.volts_at-u.result (record { sfits = c.volts_at-u.type-inv }) ∙ c.volts_at-u.ensures) (to_z-of_z w32 c.volts_at-v.result (record { sfits = c.volts_at-v.type-inv }) ∙ c.volts_at-v.ensures)
+    ∙ ap₂ lt_z (to_z-of_z w32 c.volts_at-u.result (record { sfits = c.volts_at-u.type_inv }) ∙ c.volts_at-u.ensures) (to_z-of_z w32 c.volts_at-v.result (record { sfits = c.volts_at-v.type_inv }) ∙ c.volts_at-v.ensures)

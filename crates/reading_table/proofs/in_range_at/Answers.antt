@@ -6,4 +6,4 @@ use Rattle.reading_table.specs.Table.{in_range}
 use Rattle.reading_table.proofs.in_range_at.Goals as goal
 
 pub returns : goal.returns
-returns c = c.in_range.ensures ∙ ap in_range (to_z-of_z w32 c.volts_at-v.result (record { sfits = c.volts_at-v.type-inv }) ∙ c.volts_at-v.ensures)
+returns c = c.in_range.ensures ∙ ap in_range (to_z-of_z w32 c.volts_at-v.result (record { sfits = c.volts_at-v.type_inv }) ∙ c.volts_at-v.ensures)

@@ -2,7 +2,7 @@
 use mathlib.Core.Path.{sym, ◌∙◌}
 use Prim.Native.Nat.{◌-◌}
 use native.Mathlib.Omega.{arith}
-use borrow.Author.Tests.{not-true, not-false}
+use borrow.Author.Tests.{not-true}
 use Rattle.reading_table.proofs.Climbing.{climb_start, climb_on, all_climb, out_at, fall_at, no_knots}
 use Rattle.reading_table.proofs.rising.Goals as goal
 
@@ -13,7 +13,7 @@ pub in_range_at-requires : goal.in_range_at-requires
 in_range_at-requires c = (let z = c.if-n-eq0.false in omega arith)
 
 pub returns-then-not-in_range_at : goal.returns-then-not-in_range_at
-returns-then-not-in_range_at c = out_at _ _ (let z = c.if-n-eq0.false in omega arith) (sym c.in_range_at.ensures ∙ not-true c.in_range_at.result c.if-not-in_range_at.true)
+returns-then-not-in_range_at c = out_at _ _ (let z = c.if-n-eq0.false in omega arith) (sym c.in_range_at.ensures ∙ c.if-not-in_range_at.true)
 
 pub overflow_sub-n : goal.overflow_sub-n
 overflow_sub-n c = (let z = c.if-n-eq0.false in omega arith)
@@ -22,7 +22,7 @@ pub in_range_at-requires-2 : goal.in_range_at-requires-2
 in_range_at-requires-2 c = (let z = c.if-n-eq0.false in omega arith)
 
 pub returns-then-not-in_range_at-2 : goal.returns-then-not-in_range_at-2
-returns-then-not-in_range_at-2 c = out_at _ _ (let z = c.if-n-eq0.false in omega arith) (sym c.in_range_at-2.ensures ∙ not-true c.in_range_at-2.result c.if-not-in_range_at-2.true)
+returns-then-not-in_range_at-2 c = out_at _ _ (let z = c.if-n-eq0.false in omega arith) (sym c.in_range_at-2.ensures ∙ c.if-not-in_range_at-2.true)
 
 pub loop-i-init : goal.loop-i-init
 loop-i-init c = (omega arith, (let z = c.if-n-eq0.false in omega arith), climb_start _)
@@ -47,6 +47,6 @@ returns-else-g c = fall_at _ c.loop-i.i c.loop-i.invariant.0 c.loop-i-test.true 
 
 pub returns : goal.returns
 returns c =
-    let first = sym c.in_range_at.ensures ∙ not-false c.in_range_at.result c.if-not-in_range_at.false in
-    let last = sym c.in_range_at-2.ensures ∙ not-false c.in_range_at-2.result c.if-not-in_range_at-2.false in
+    let first = sym c.in_range_at.ensures ∙ c.if-not-in_range_at.false in
+    let last = sym c.in_range_at-2.ensures ∙ c.if-not-in_range_at-2.false in
     all_climb _ c.loop-i.i (let h = c.loop-i-test.false in omega arith) first last c.loop-i.invariant.2

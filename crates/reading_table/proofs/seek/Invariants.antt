@@ -1,12 +1,10 @@
 use Prim.Native.Nat.{◌-◌}
-use mir.Syntax.{w32}
-use mir.Val.{to_z}
 use Rattle.reading_table.specs.Search.{rounds_left}
 use Rattle.reading_table.proofs.Steps.{Halved}
 use Rattle.reading_table.proofs.seek.Given as goal
 
 abbrev pub invariant-loop-lo : goal.invariant-loop-lo
-invariant-loop-lo l = Halved l.s (to_z w32 l.x) l.n l.lo l.hi
+invariant-loop-lo l = Halved l.s l.x l.n l.lo l.hi
 
 abbrev pub decreases-loop-lo : goal.decreases-loop-lo
 decreases-loop-lo l = rounds_left l.lo l.hi

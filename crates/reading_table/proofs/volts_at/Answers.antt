@@ -6,4 +6,4 @@ use Rattle.reading_table.proofs.Places.{volts_in}
 use Rattle.reading_table.proofs.volts_at.Goals as goal
 
 pub returns : goal.returns
-returns c = to_z-of_z w32 c.signed_of_32.result (record { sfits = c.signed_of_32.type-inv }) ∙ c.signed_of_32.ensures ∙ ap signed32 c.word_of_32-w.ensures ∙ sym (volts_in _ _ c.requires)
+returns c = to_z-of_z w32 c.signed_of_32.result (record { sfits = c.signed_of_32.type_inv }) ∙ c.signed_of_32.ensures ∙ ap signed32 c.word_of_32-w.ensures ∙ sym (volts_in _ _ c.requires)

@@ -11,7 +11,7 @@ use Rattle.wear_print.proofs.line.Goals as goal
 pub returns-then-out-lt512 : goal.returns-then-out-lt512
 returns-then-out-lt512 c =
     let n = no_room_lem c.args.out.now (line_text c.args.sign c.args.a c.args.b) c.if-out-lt512.true in
-    (n.0, (n.1, counts 0 c.args.out.now zero-le))
+    record { result = n.0; out_left = n.1; out_used = counts 0 c.args.out.now zero-le }
 
 pub put_field-p-requires : goal.put_field-p-requires
 put_field-p-requires c =
@@ -64,4 +64,4 @@ returns c =
     let z = from_letter out ((S ++ A) ++ B) q.new.out 10 0 q.result zero-le (omega (arith, b, m, l)) h in
     let n = in_room out (((S ++ A) ++ B) ++ (10 ∷ [])) (set q.new.out q.result 10) (q.result + 1) l z in
     let k : length (set q.new.out q.result 10) ≡ length out = length-set q.new.out q.result 10 ∙ m in
-    (n.0, (n.1, counts (q.result + 1) (set q.new.out q.result 10) (omega (arith, b, k, l))))
+    record { result = n.0; out_left = n.1; out_used = counts (q.result + 1) (set q.new.out q.result 10) (omega (arith, b, k, l)) }

@@ -11,7 +11,7 @@ use Rattle.wear_print.proofs.table.Goals as goal
 pub returns-then-out-lt512 : goal.returns-then-out-lt512
 returns-then-out-lt512 c =
     let n = no_room_lem c.args.out.now (table_text c.args.r) c.if-out-lt512.true in
-    (n.0, (n.1, counts 0 c.args.out.now zero-le))
+    record { result = n.0; out_left = n.1; out_used = counts 0 c.args.out.now zero-le }
 
 pub returns : goal.returns
 unfolding table_text
@@ -36,4 +36,4 @@ returns c =
     let b : v.result ≤ 461 = omega (arith, p.ensures.result.1, q.ensures.result.1, u.ensures.result.1, v.ensures.result.1) in
     let m : length v.new.out ≡ length out = v.auto.out ∙ u.auto.out ∙ q.auto.out ∙ p.auto.out ∙ w.auto.dst in
     let n = in_room out ((((head_text ++ A) ++ B) ++ C) ++ D) v.new.out v.result l j in
-    (n.0, (n.1, counts v.result v.new.out (omega (arith, b, m, l))))
+    record { result = n.0; out_left = n.1; out_used = counts v.result v.new.out (omega (arith, b, m, l)) }
