@@ -1,12 +1,13 @@
 use mathlib.Core.Bool.{true, false}
-use mathlib.Core.Path.{sym, ap₂, ◌∙◌}
+use mathlib.Core.Path.{sym, ap, ◌∙◌}
 use Prim.Native.Nat.{ℕ, ◌+◌, ◌-◌, ◌≤◌, ◌<◌}
 use native.Mathlib.Omega.{arith}
 use lib.IntN.{ℤ}
 use lib.Signed.{le_z}
 use mir.Syntax.{w32}
 use mir.ValLaws.{to_z-of_z}
-use Rattle.reading_table.specs.Search.{rounds_left}
+use mir.Val.{to_z, of_z}
+use Rattle.reading_table.specs.Search.{seek_of, rounds_left}
 use Rattle.reading_table.proofs.Steps.{mid, halved_start, halved_few, halved_round, halved_end}
 use Rattle.reading_table.proofs.Rounds.{rounds_fall}
 use Rattle.reading_table.proofs.seek.Goals as goal
@@ -38,13 +39,13 @@ pub loop-lo-smaller-then-low : goal.loop-lo-smaller-then-low
 loop-lo-smaller-then-low c = let i = c.loop-lo.invariant in (lowered c.loop-lo.lo c.loop-lo.hi (omega (arith, i.within, c.well_formed.0.0)) c.loop-lo-test.true).0
 
 pub loop-lo-preserved-then-low : goal.loop-lo-preserved-then-low
-loop-lo-preserved-then-low c = halved_round c.loop-lo.invariant c.loop-lo-test.true true (sym (c.at_most-low.ensures ∙ ap₂ le_z (to_z-of_z w32 c.volts_at-v.result (record { sfits = c.volts_at-v.type_inv }) ∙ c.volts_at-v.ensures) (to_z-of_z w32 c.args.x c.ranges.x)) ∙ c.if-low.true)
+loop-lo-preserved-then-low c = halved_round c.loop-lo.invariant c.loop-lo-test.true true (sym (c.at_most-low.ensures ∙ ap (λ (v : ℤ). le_z v (to_z w32 (of_z w32 c.args.x))) (to_z-of_z w32 c.volts_at-v.result (record { sfits = c.volts_at-v.type_inv }) ∙ c.volts_at-v.ensures)) ∙ c.if-low.true)
 
 pub loop-lo-smaller : goal.loop-lo-smaller
 loop-lo-smaller c = let i = c.loop-lo.invariant in (lowered c.loop-lo.lo c.loop-lo.hi (omega (arith, i.within, c.well_formed.0.0)) c.loop-lo-test.true).1
 
 pub loop-lo-preserved : goal.loop-lo-preserved
-loop-lo-preserved c = halved_round c.loop-lo.invariant c.loop-lo-test.true false (sym (c.at_most-low.ensures ∙ ap₂ le_z (to_z-of_z w32 c.volts_at-v.result (record { sfits = c.volts_at-v.type_inv }) ∙ c.volts_at-v.ensures) (to_z-of_z w32 c.args.x c.ranges.x)) ∙ c.if-low.false)
+loop-lo-preserved c = halved_round c.loop-lo.invariant c.loop-lo-test.true false (sym (c.at_most-low.ensures ∙ ap (λ (v : ℤ). le_z v (to_z w32 (of_z w32 c.args.x))) (to_z-of_z w32 c.volts_at-v.result (record { sfits = c.volts_at-v.type_inv }) ∙ c.volts_at-v.ensures)) ∙ c.if-low.false)
 
 pub returns : goal.returns
-returns c = halved_end c.loop-lo.invariant c.loop-lo-test.false
+returns c = halved_end c.loop-lo.invariant c.loop-lo-test.false ∙ ap (seek_of c.args.s.now) (to_z-of_z w32 c.args.x c.ranges.x)

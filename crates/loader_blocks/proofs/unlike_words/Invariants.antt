@@ -1,0 +1,17 @@
+-- `loader_blocks::unlike_words` meets its contract: those that differ so far, and those among the rest, are all that differ.
+use mathlib.Core.Path.{◌≡◌}
+use Prim.Native.Nat.{◌+◌, ◌-◌, ◌≤◌}
+use lib.ListN.{length}
+use Rattle.units.specs.Units.{pairs}
+use Rattle.loader_blocks.specs.Blocks.{costs}
+use Rattle.loader_blocks.proofs.unlike_words.Given as goal
+
+abbrev pub invariant-loop-i : goal.invariant-loop-i
+invariant-loop-i l =
+    (l.i ≤ l.n)
+    × (l.n ≡ length (pairs l.wanted))
+    × (l.count + costs (length (pairs l.wanted) - l.i) 1 l.i (pairs l.wanted) (pairs l.scratch) ≡ costs (length (pairs l.wanted)) 1 0 (pairs l.wanted) (pairs l.scratch))
+    × (l.count ≤ l.i)
+
+abbrev pub decreases-loop-i : goal.decreases-loop-i
+decreases-loop-i l = l.n - l.i

@@ -1,0 +1,20 @@
+-- `loader_blocks::verify_words` meets its contract: the first i words of scratch are the block's, and what is left to look at is what was
+-- to look at.
+use mathlib.Core.Path.{◌≡◌}
+use Prim.Native.Nat.{◌-◌, ◌≤◌}
+use lib.ListN.{length}
+use Rattle.common.specs.Lists.{overwritten}
+use Rattle.units.specs.Units.{pairs}
+use Rattle.loader_walk.specs.Walks.{next_diff, diff_from}
+use Rattle.loader_blocks.proofs.verify_words.Given as goal
+
+abbrev pub invariant-loop-i : goal.invariant-loop-i
+invariant-loop-i l =
+    (l.i ≤ l.n)
+    × (l.n ≡ length (pairs l.wanted))
+    × (next_diff (length (pairs l.wanted) - l.i) l.i (pairs l.wanted) (pairs l.held) ≡ diff_from 0 (pairs l.wanted) (pairs l.held))
+    × (pairs l.scratch ≡ overwritten l.i (pairs l.held) (pairs l.initial.scratch))
+    × (length l.scratch ≡ length l.initial.scratch)
+
+abbrev pub decreases-loop-i : goal.decreases-loop-i
+decreases-loop-i l = l.n - l.i

@@ -1,0 +1,16 @@
+use borrow.Author.Tests.{eq-eqb, ne_eqb}
+use mathlib.Core.Path.{sym, ◌∙◌}
+use Rattle.loader_moves.specs.Moves.{program_polled}
+use Rattle.loader_moves.proofs.program_polled.Goals as goal
+
+pub returns-then-n-eq0 : goal.returns-then-n-eq0
+unfolding program_polled
+returns-then-n-eq0 c = simp (c.onward.ensures, c.past.ensures, c.units_of.ensures, eq-eqb _ _ c.if-n-eq0.true, ← c.program_end-n.ensures, sym c.is_ready.ensures ∙ c.if-is_ready.true)
+
+pub returns-then-is_ready : goal.returns-then-is_ready
+unfolding program_polled
+returns-then-is_ready c = simp (c.ended_by.ensures, ne_eqb _ _ c.if-n-eq0.false, ← c.program_end-n.ensures, sym c.is_ready.ensures ∙ c.if-is_ready.true)
+
+pub returns : goal.returns
+unfolding program_polled
+returns c = simp (c.poll_more.ensures, sym c.is_ready.ensures ∙ c.if-is_ready.false)
