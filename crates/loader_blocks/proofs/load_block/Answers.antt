@@ -33,7 +33,7 @@ returns-then-are_alike c =
     let e : alike b (length h) (length w) (length s) ≡ true = sym c.are_alike.ensures ∙ c.if-are_alike.true in
     let z : c.copy.new.dst ≡ h = c.copy.ensures ∙ copied_whole s h (room_long b h w s e ∙ sym (held_long b h w s e)) in
     let th : torn b (length h) ≡ false = ap (λ (n : ℕ). torn b n) (held_long b h w s e) ∙ whole b h w s e in
-    let ts : torn b (length s) ≡ false = ap (λ (n : ℕ). torn b n) (room_long b h w s e) ∙ whole b h w s e in record { result = f.ensures.result ∙ ap (λ (x : List ℕ). work_done b a.once a.each (units b w) (units b x)) z ∙ sym (done_is b h w s e a.once a.each); held_left = f.ensures.held_left.0 ∙ sym (left_is b h w s e); held_spare = spare_same b f.new.once.1.1.0 h f.auto.once.1.1.0 th; scratch_left = f.ensures.held_left.1 ∙ sym (room_is b h w s e); scratch_spare = spare_same b f.new.once.1.1.1.1.0 s (f.auto.once.1.1.1.1.0 ∙ c.copy.auto.dst) ts }
+    let ts : torn b (length s) ≡ false = ap (λ (n : ℕ). torn b n) (room_long b h w s e) ∙ whole b h w s e in record { result = f.ensures.result ∙ ap (λ (x : List ℕ). work_done b a.once a.each (units b w) (units b x)) z ∙ sym (done_is b h w s e a.once a.each); held_left = f.ensures.held_left ∙ sym (left_is b h w s e); held_spare = spare_same b f.new.held h f.auto.held th; scratch_left = f.ensures.scratch_left ∙ sym (room_is b h w s e); scratch_spare = spare_same b f.new.scratch s (f.auto.scratch ∙ c.copy.auto.dst) ts }
 
 pub returns : goal.returns
 returns c =

@@ -30,7 +30,7 @@ rises-requires c =
     let w = a.wanted.now in
     let s = a.scratch.now in
     let e : alike a.word (length h) (length w) (length s) ≡ true = sym c.are_alike.ensures ∙ c.if-are_alike.true in
-    c.copy.auto.dst ∙ c.verify_all-m.auto.held.1.1.0 ∙ room_long a.word h w s e
+    c.copy.auto.dst ∙ c.verify_all-m.auto.scratch ∙ room_long a.word h w s e
 
 pub returns-then-are_alike : goal.returns-then-are_alike
 returns-then-are_alike c =
@@ -41,7 +41,7 @@ returns-then-are_alike c =
     let b = a.word in
     let e : alike b (length h) (length w) (length s) ≡ true = sym c.are_alike.ensures ∙ c.if-are_alike.true in
     let v = c.verify_all-m in
-    let z : c.copy.new.dst ≡ h = c.copy.ensures ∙ copied_whole v.new.held.1.1.0 h (v.auto.held.1.1.0 ∙ room_long b h w s e ∙ sym (held_long b h w s e)) in
+    let z : c.copy.new.dst ≡ h = c.copy.ensures ∙ copied_whole v.new.scratch h (v.auto.scratch ∙ room_long b h w s e ∙ sym (held_long b h w s e)) in
     let n : c.units_in-n.result ≡ length (units b w) = c.units_in-n.ensures ∙ sym (units_length b w) in
     let r : c.rises.result ≡ rises_in (units b w) (units b h) =
     c.rises.ensures ∙ ap (λ (x : List ℕ). rises_in w x) z ∙ sym (rises_units b w h (held_long b h w s e) (whole b h w s e) (λ i. (c.shared_slice_known-2-1.given i).fits) (λ i. (c.shared_slice_known-1.given i).fits)) in

@@ -26,7 +26,7 @@ returns-then-are_alike c =
     let f = c.verify_all in
     let e : alike a.word (length h) (length w) (length s) ≡ true = sym c.are_alike.ensures ∙ c.if-are_alike.true in
     let t : torn a.word (length s) ≡ false = ap (λ (n : ℕ). torn a.word n) (room_long a.word h w s e) ∙ whole a.word h w s e in
-    record { result = f.ensures.result ∙ sym (met_is a.word h w s e); scratch_left = f.ensures.scratch_left ∙ sym (seen_is a.word h w s e); scratch_spare = spare_same a.word f.new.held.1.1.0 s f.auto.held.1.1.0 t }
+    record { result = f.ensures.result ∙ sym (met_is a.word h w s e); scratch_left = f.ensures.scratch_left ∙ sym (seen_is a.word h w s e); scratch_spare = spare_same a.word f.new.scratch s f.auto.scratch t }
 
 pub returns : goal.returns
 returns c =
