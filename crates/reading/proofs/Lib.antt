@@ -1,3 +1,4 @@
+pub mod Handed
 pub mod Told
-pub mod WaysOut
 pub mod Unique
+pub mod WaysOut
