@@ -10,7 +10,8 @@ use Rattle.model_states.specs.States.{improper}
 use Rattle.loader_steps.specs.Front.{no_block}
 use Rattle.model_types.specs.Phases.{under_way}
 use Rattle.loader_run_claims.specs.Wear.{begun_at, held_by, noted_all, operations_of, formula_by}
-use Rattle.model_history.specs.History.{Bus, World, world_of, buses_of, world_after, effects_in, begun_over, accepts_all, uncut, total_of, erase_of}
+use Rattle.model_history.specs.History.{Bus, World, world_of, buses_of, world_after, effects_in, begun_over, accepts_all, uncut}
+use Rattle.model_history.specs.History.{total_of, erase_of}
 use Rattle.model_history.specs.History.{erases_begun, programs_begun}
 use Rattle.loader_run_claims.specs.Made.{cycles_at}
 use Rattle.loader.specs.declared.Work.TheVariants.{Load}
