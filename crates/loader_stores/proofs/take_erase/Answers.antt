@@ -9,4 +9,4 @@ pub returns : goal.returns
 returns c =
     let a = c.args in
     let e = c.store_erase.ensures in
-    record { result = c.erase_polled.ensures ∙ ap (λ (z : List ℕ). erase_polled a.l a.b (units a.l.part.word a.wanted.now) z) e.0; scratch_left = e.0; scratch_spare = e.1 }
+    record { result = c.erase_polled.ensures ∙ ap (λ (z : List ℕ). erase_polled a.l a.b (units a.l.part.word a.wanted.now) z) e.scratch_left; scratch_left = e.scratch_left; scratch_spare = e.scratch_spare }

@@ -9,4 +9,4 @@ pub returns : goal.returns
 returns c =
     let a = c.args in
     let e = c.put_unit.ensures in
-    record { result = c.read_more.ensures ∙ ap (λ (z : List ℕ). after_read a.l (units a.l.part.word a.wanted.now) z) e.0; scratch_left = e.0; scratch_spare = e.1 }
+    record { result = c.read_more.ensures ∙ ap (λ (z : List ℕ). after_read a.l (units a.l.part.word a.wanted.now) z) e.s_left; scratch_left = e.s_left; scratch_spare = e.s_spare }

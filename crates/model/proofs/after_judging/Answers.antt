@@ -23,7 +23,7 @@ returns-then-asks_array c =
     shows a.d a.s a.c (sym c.asks_array.ensures ∙ c.if-asks_array.true) in
     let both = judged_too a.d a.s a.c xs rs
     (c.show.ensures ∙ sym (ap (λ (x : Decision). record { seen = seen_of x.reply (done_of x.effect a.d.part rs xs); state = x.state }) e))
-    (sym (ap (λ (x : Decision). done_of x.effect a.d.part rs xs) e), refl) in record { result = both.0; told = both.1.0; array_left = both.1.1; array_spare = both.3 }
+    (sym (ap (λ (x : Decision). done_of x.effect a.d.part rs xs) e)) in record { result = both.0; told = both.1.0; array_left = both.1.1; array_spare = refl }
 
 pub returns : goal.returns
 unfolding answer_judged array_judged
@@ -39,4 +39,4 @@ returns c =
     let p : c.see-seen.result ≡ seen_of x.reply (done_of x.effect a.d.part rs xs) =
     c.see-seen.ensures.result ∙ ap (λ (y : Decision). seen_of y.reply (units a.d.part.word put.new.array)) e ∙ ap (λ (ys : List ℕ). seen_of x.reply ys) left in
     let q : decided.result.state ≡ x.state = ap (λ (y : Decision). y.state) e in
-    let both = judged_too a.d a.s a.c xs rs (λ i. record { seen = p i; state = q i }) (left, put.ensures.array_spare) in record { result = both.0; told = both.1.0; array_left = both.1.1; array_spare = both.3 }
+    let both = judged_too a.d a.s a.c xs rs (λ i. record { seen = p i; state = q i }) left in record { result = both.0; told = both.1.0; array_left = both.1.1; array_spare = put.ensures.array_spare }
