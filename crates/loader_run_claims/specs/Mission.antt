@@ -67,7 +67,7 @@ pub record Demand3 (verify : Bool) (j : Job) (xs w sc : List ℕ) : Type 0 where
   pub others : (x : ℕ) → (block_of j.device.part x ≡ j.block → ⊥) → get_or (run_left (doing (Load verify) j) xs w sc).bytes x 0
       ≡ get_or xs x 0
   -- .. so the array is the old one with the wanted units laid over the block
-  pub array_left_lem : (run_left (doing (Load verify) j) xs w sc).bytes ≡ overlaid xs (start_of j.device.part j.block) w
+  pub array_left : (run_left (doing (Load verify) j) xs w sc).bytes ≡ overlaid xs (start_of j.device.part j.block) w
   -- it erases once if some bit must rise, otherwise never; it programs each unit that then differs once and no other: on a
   -- device in word mode words are counted
   pub begins : begun_at (doing (Load verify) j) xs w sc
