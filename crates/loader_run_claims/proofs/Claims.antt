@@ -50,7 +50,7 @@ lent_demand_3 = lending.lent_demand_3 true
 -- Such starts there are of every block of the eight devices, in byte mode and in word mode, in either band of VPP, with RP# at V_HH and
 -- with WP# high: one computed test.
 pub starts_exist : all_start ≡ true
-starts_exist = anchors.all_start
+starts_exist = anchors.all_start_lem
 
 -- Counts pass 32 bits: a block of 65,536 units or more that holds ones, to be zeros, each programmed in 65,535 cycles.
 pub passes_32_bits : (d : Device) (n : ℕ) → d.program ≡ 65535 → 65536 ≤ n → 4294967296 < formula d (replicate n 0) (replicate n (ones d.part))
