@@ -21,8 +21,8 @@ returns-then-n-eq0 c =
     let n = step_lent l h a.v xs ys ps bs (length rs) _ _ _ c.step_number-n.ensures c.lent_in.ensures c.lent_in-2.ensures in
     let z = sym n ∙ c.if-n-eq0.true in
     let both = step_too l h a.v (lent w xs) (lent w ys) ps bs (length rs) (step_gives l h a.v xs ys ps bs (length rs) _ _ z m.ensures.result c.response_at.ensures)
-      (step_leaves l h a.v xs ys ps bs (length rs) m.new.scratch z m.auto.scratch (λ k. (c.slice_known-then-n-eq0-1.given k).ranges) m.ensures.scratch_left) in
-    let rest = room_leaves l h a.v xs ys bs rs m.new.room z (λ k. (c.slice_known-then-n-eq0-2-1.given k).ranges) m.ensures.room_left m.ensures.room_spare in
+    (step_leaves l h a.v xs ys ps bs (length rs) m.new.scratch z m.auto.scratch (λ k. (c.slice_known-then-n-eq0-1.given k).fits) m.ensures.scratch_left) in
+    let rest = room_leaves l h a.v xs ys bs rs m.new.room z (λ k. (c.slice_known-then-n-eq0-2-1.given k).fits) m.ensures.room_left m.ensures.room_spare in
     record { result = both.0; told = both.1.0; scratch_left = both.1.1; room_left = rest }
 
 pub returns : goal.returns
