@@ -1,6 +1,6 @@
 -- What a cut by RP# or VPP leaves, and that nothing ends in a cycle with VPP low.
 use mathlib.Core.Path.{◌≡◌, refl, sym, ap, ◌∙◌}
-use mathlib.Core.Bool.{Bool, true, false, ◌&&◌}
+use mathlib.Core.Bool.{Bool, true, false, ◌&&◌, cond}
 use mathlib.Core.List.{List}
 use Prim.Native.Nat.{ℕ}
 use lib.ListN.{length, get_or, set}
@@ -128,11 +128,11 @@ module _ (d : Device) (v : World) (b : Bus) where
     a = first_write d.part (command_of b.cycle)
 
     by_write : b.cycle.kind ≡ Write
-        → if is_refuse a then (stepped d v b ≡ v) × (seen_on d v b ≡ Refused 7) else Quietly d v b (world_of (performed_of a d b.cycle s) (cut_bytes d v b))
+        → cond (is_refuse a) ((stepped d v b ≡ v) × (seen_on d v b ≡ Refused 7)) (Quietly d v b (world_of (performed_of a d b.cycle s) (cut_bytes d v b)))
     by_write k = go (is_refuse a) refl
       where
         go : (x : Bool) → is_refuse a ≡ x
-            → if x then (stepped d v b ≡ v) × (seen_on d v b ≡ Refused 7) else Quietly d v b (world_of (performed_of a d b.cycle s) (cut_bytes d v b))
+            → cond x ((stepped d v b ≡ v) × (seen_on d v b ≡ Refused 7)) (Quietly d v b (world_of (performed_of a d b.cycle s) (cut_bytes d v b)))
         go true r =
             let done = when_refused d v b judged up (settled_as s e) cuts k r in
             (leads d v b (Refuses 7) v.state Nothing done, shows d v b (Refuses 7) v.state Nothing done)

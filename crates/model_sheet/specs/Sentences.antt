@@ -1,5 +1,5 @@
 -- The data sheet's sentences that have several parts, each as a record with a field for each part.
-use Rattle.std.specs.Prelude.{◌≡◌, true, false, List, ℕ, ◌+◌, ◌<◌, get_or, set, if◌then◌else◌}
+use Rattle.std.specs.Prelude.{◌≡◌, true, false, List, ℕ, ◌+◌, ◌<◌, get_or, set, cond}
 use Rattle.std.specs.Int.Bits.{bit_and, bit_or}
 use Rattle.device.specs.declared.Device.{Device}
 use Rattle.device.specs.Parts.{block_of}
@@ -51,9 +51,9 @@ pub record Cut (d : Device) (v : World) (b : Bus) : Type 0 where
       → Quietly d v b (world_of (cut_state v.state) (cut_bytes d v b))
   -- .. and a write then does what it does at rest; one that is no command there is refused by 7, and nothing is cut
   pub by_write : Judged d v b → Falls d v b → b.cycle.kind ≡ Write
-      → if is_refuse (first_write d.part (command_of b.cycle)) then (stepped d v b ≡ v) × (seen_on d v b ≡ Refused 7)
-      else Quietly d v b
-      (world_of (performed_of (first_write d.part (command_of b.cycle)) d b.cycle (cut_state v.state)) (cut_bytes d v b))
+      → cond (is_refuse (first_write d.part (command_of b.cycle))) ((stepped d v b ≡ v) × (seen_on d v b ≡ Refused 7))
+      (Quietly d v b
+      (world_of (performed_of (first_write d.part (command_of b.cycle)) d b.cycle (cut_state v.state)) (cut_bytes d v b)))
   -- the array: of a program old AND (data OR r) in its unit; of an erase, while it is being suspended and while it is suspended too, the
   -- residue in its block; with nothing to cut it is as it was
   pub of_program : (y : ℕ) → v.state.phase ≡ Programming y

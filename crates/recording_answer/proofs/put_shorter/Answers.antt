@@ -1,0 +1,20 @@
+-- `recording_answer::put_shorter` meets its contract.
+use mathlib.Core.List.{◌++◌}
+use Rattle.text.proofs.Laying.{laid_first, laid_more}
+use Rattle.text.specs.Digits.{decimal_of}
+use Rattle.text.specs.Writing.{bytes}
+use Rattle.recording_answer.specs.Lines.{around}
+use Rattle.recording_answer.proofs.put_shorter.Goals as goal
+
+pub returns : goal.returns
+returns c =
+    let a = c.args in
+    let xs = a.out.now in
+    let A = around (bytes "the end is at fault: the array promised has ") a.n (bytes " bytes, the part ") in
+    let p0 = c.put_around-a in
+    let p1 = c.put_decimal-b in
+    let p2 = c.put_text in
+    let f0 = laid_first xs A p0.new.out a.at p0.result p0.ensures.result p0.ensures.out_left in
+    let f1 = laid_more xs A (decimal_of a.m) p0.new.out p1.new.out a.at p0.result p1.result f0 p1.ensures.result p1.ensures.out_left in
+    let f2 = laid_more xs (A ++ decimal_of a.m) (bytes "\n") p1.new.out p2.new.out a.at p1.result p2.result f1 p2.ensures.result p2.ensures.out_left in
+    record { result = f2.place; out_left = f2.bytes }
