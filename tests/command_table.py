@@ -15,7 +15,7 @@ ROOT = pathlib.Path(__file__).resolve().parent.parent
 CODE, SPEC = ROOT / "crates/command_table/src/lib.rt", ROOT / "crates/command_table/specs/Table.antt"
 PAGE, PICTURE = ROOT / "docs/COMMANDS.md", ROOT / "docs/commands.svg"
 CODE_HEAD, CODE_TAIL = "const COMMANDS: [[u8; 16]; 112] = [\n", "];\n"
-SPEC_HEAD = "unfoldable pub commandTable : List (List ℕ)\ncommandTable =\n"
+SPEC_HEAD = "unfoldable pub command_table : List (List ℕ)\ncommand_table =\n"
 
 # Each action number, and what it says on the page. The first four stand in most places and have one digit.
 (REFUSE, IGNORE, STORE, WRONG_SECOND, TO_ARRAY, TO_IDENTIFIER, TO_STATUS, CLEAR, AWAIT_ERASE, AWAIT_DATA, AWAIT_DATA_LARGE, CONFIRM, SUSPEND,

@@ -59,7 +59,7 @@ def crates():
     """How many definitions and items there are; their faults, and those of every comment."""
     counted = [0, 0]
     for file in sorted((ROOT / "crates").rglob("*")):
-        if file.suffix not in (".antt", ".rt"):
+        if file.suffix not in (".antt", ".rt") or file.relative_to(ROOT).parts[2] == "out":
             continue
         name, here, mark = file.relative_to(ROOT).as_posix(), lines(file), "--" if file.suffix == ".antt" else "//"
         for place, (folder, public) in enumerate((("/specs/", definitions), ("/src/", items))):

@@ -1,6 +1,7 @@
 """Holds include/torfbarke.h against the crates: structs field by field, functions parameter by parameter, the numbers of modes,
 phases, kinds, stages, answers and turns, the refusals and which of them have words, the parts' blocks, the supply bands, the limits of
-the load file, of wear and of a busy time; the version beside the file VERSION; and that every call which an overlap threatens is tested.
+the load file, of wear and of a busy time; the version beside the file VERSION; that every call which an overlap threatens is tested; and
+that each export of a crate NAME_c promises, word for word, what the function of its name in NAME does.
 
     python3 tests/header.py        names every difference, and ends with 1 where there is one
 
@@ -16,8 +17,8 @@ faults = []
 
 
 def text(pattern):
-    """All files of the crates that fit a pattern, without comments."""
-    found = sorted((ROOT / "crates").glob(pattern))
+    """All files of the crates that fit a pattern, without comments. What a check keeps in a crate's out/ is no file of the crate."""
+    found = sorted(it for it in (ROOT / "crates").glob(pattern) if it.relative_to(ROOT).parts[2] != "out")
     if not found:
         faults.append(f"no file crates/{pattern}")
     return "\n".join(re.sub(r"(//|--)[^\n]*", "", path.read_text()) for path in found)
@@ -57,7 +58,7 @@ def places(field):
 
 
 in_code = {}
-for name, body in re.findall(r"#\[repr\(C\)\]\s*pub struct (\w+)Numbers \{(.*?)\n\}", text("*/src/*.rt"), re.S):
+for name, body in re.findall(r"#\[repr\(C\)\]\s*(?:#\[derive\([^)]*\)\]\s*)*pub struct (\w+)Numbers \{(.*?)\n\}", text("*/src/*.rt"), re.S):
     in_code[STRUCTS.get(name, name)] = [(TYPES[t], f) for f, t in re.findall(r"pub (\w+): (\w+),", body)]
 in_header = {}
 for body, name in re.findall(r"typedef struct \{(.*?)\} (\w+);", plain, re.S):
@@ -66,9 +67,19 @@ same("structs", sorted(in_header), sorted(in_code))
 for name in sorted(in_header.keys() & in_code.keys()):
     same(f"struct {name}", in_header[name], in_code[name])
 
-# functions
+# functions: those that the static libraries export, which are the crates NAME_c; each hands on to the function of its name in NAME
+EXPORT = re.compile(r'#\[unsafe\(no_mangle\)\]\s*pub extern "C" fn (\w+)(\(.*?\)(?: -> \w+)?\s+(?:requires|ensures)\b.*?)\n\{\n(.*?)\n\}', re.S)
+for thin in sorted((ROOT / "crates").glob("c_*_c")):
+    below = thin.name[:-2]
+    exports, whole = ({n: (" ".join(p.split()), " ".join(body.split())) for n, p, body in EXPORT.findall(text(f"{crate}/src/lib.rt"))} for crate in (thin.name, below))
+    same(f"exports of {thin.name}, beside the functions of {below}", sorted(exports), sorted(whole))
+    for name in sorted(exports.keys() & whole.keys()):
+        if exports[name][0] != whole[name][0]:
+            faults.append(f"{thin.name}: {name} promises something else than {below}::{name}")
+        if not exports[name][1].startswith(f"{below}::{name}("):
+            faults.append(f"{thin.name}: {name} does not hand on to {below}::{name}")
 code_functions = {}
-for name, arguments, result in re.findall(r'pub extern "C" fn (\w+)\((.*?)\)(?: -> (\w+))?\s+ensures', text("*/src/*.rt"), re.S):
+for name, arguments, result in re.findall(r'#\[unsafe\(no_mangle\)\]\s*pub extern "C" fn (\w+)\((.*?)\)(?: -> (\w+))?\s+ensures', text("c_*_c/src/*.rt"), re.S):
     parameters = []
     for argument, kind in re.findall(r"(\w+): ([^,]+)", arguments):
         kind = kind.strip()
@@ -95,13 +106,13 @@ for name in sorted(header_functions.keys() & code_functions.keys()):
 
 # numbers of the variants, as the border's definitions have them
 border = text("*/specs/Values.antt") + text("*/specs/Answers.antt") + text("*/specs/Records.antt")
-for function, prefix in (("modeOut", "TB_MODE_"), ("phaseOut", "TB_"), ("kindOut", "TB_CYCLE_"), ("stageOut", "TB_"), ("seenOut", "TB_")):
+for function, prefix in (("mode_out", "TB_MODE_"), ("phase_out", "TB_"), ("kind_out", "TB_CYCLE_"), ("stage_out", "TB_"), ("seen_out", "TB_")):
     clauses = re.findall(rf"^{function} \(?([A-Z]\w*)[^=\n]*= (\d+)$", border, re.M)
     if not clauses:
         faults.append(f"no clauses of {function}")
     for variant, number in clauses:
         same(prefix + snake(variant), constants.get(prefix + snake(variant)), int(number))
-for variant, number in re.findall(r"^sayingOut \((\w+)[^)]*\) = sayingAt (\d+)", border, re.M):
+for variant, number in re.findall(r"^saying_out \((\w+)[^)]*\) = saying_at (\d+)", border, re.M):
     name = {"Out": "TB_CYCLE_OUT", "SayRefused": "TB_BARRED"}.get(variant, "TB_" + variant.upper())
     same(name, constants.get(name), int(number))
 
@@ -113,7 +124,7 @@ operators = sorted(int(n) for n in re.findall(r"^- \*\*(\d+)\*\* ", told_of, re.
 same("refusals, beside docs/OPERATORS.md", refusals, operators)
 given = {int(n) for n in re.findall(r"\brow (\d+) \(", text("*/specs/*.antt"))}
 given |= {int(n) for n in re.findall(r"\b(?:then|else) (2[0-4])\b", text("loader/specs/*.antt"))}
-given |= {int(n) for n in re.findall(r"(?:endedBy l|stage = Ended) (2\d)\b", text("loader_moves/specs/*.antt"))}
+given |= {int(n) for n in re.findall(r"(?:ended_by l|stage = Ended) (2\d)\b", text("loader_moves/specs/*.antt"))}
 given |= {int(n) for n in re.findall(r"refused (3\d)\b", text("*/specs/*.antt"))}
 same("refusals, beside the tables of specs/", refusals, sorted(given))
 
@@ -142,7 +153,7 @@ same("NDEBUG in the code of the header", "NDEBUG" in plain, False)
 table = text("device/specs/Parts.antt")
 more = re.search(r"l0 = (\d+); l1 = (\d+); l2 = (\d+); l3 = (\d+); l4 = (\d+); l5 = further; l6 = further", table).groups()
 parts = {}
-for number, kind, lengths, top in re.findall(r"(?:eqb n (\d+) then|else) (four|more)Blocks ([\d ]+) (true|false)", table):
+for number, kind, lengths, top in re.findall(r"(?:eqb n (\d+) then|else) (four|more)_blocks ([\d ]+) (true|false)", table):
     number = int(number) if number else len(parts) + 1
     lengths = [int(n) for n in lengths.split()]
     if kind == "four":
@@ -178,8 +189,8 @@ same("TB_BUSY_MOST", constants["TB_BUSY_MOST"], longest)
 
 # supply bands, load file, letters
 levels = text("*/specs/Levels.antt")
-low = re.search(r"^vppLow part p = if isLarge part then leb \(p \.vpp\) (\d+) else leb \(p \.vpp\) (\d+)$", levels, re.M)
-high = [re.search(rf"^{band} p = leb (\d+) \(p \.vpp\) && leb \(p \.vpp\) (\d+)$", levels, re.M) for band in ("atFive", "atTwelve")]
+low = re.search(r"^vpp_low part p = if is_large part then leb p\.vpp (\d+) else leb p\.vpp (\d+)$", levels, re.M)
+high = [re.search(rf"^{band} p = leb (\d+) p\.vpp && leb p\.vpp (\d+)$", levels, re.M) for band in ("at_five", "at_twelve")]
 bands = ("BR_LOW_MOST", "LOW_MOST", "BR_5V_LEAST", "BR_5V_MOST", "HIGH_LEAST", "HIGH_MOST")
 same("supply bands", [constants[f"TB_VPP_{n}_MV"] for n in bands], [int(n) for found in (low, *high) for n in found.groups()])
 limit = int(re.search(r"^limit = (\d+)", text("*/specs/File.antt"), re.M).group(1))

@@ -30,7 +30,7 @@ def words():
     """The words of each number, from the definitions."""
     lines = "".join((ROOT / "crates" / name / "specs/Words.antt").read_text() for name in ("c_words", "refusal_words"))
     told = {int(n): text for n, text in re.findall(r'if eqb n (\d+) then bytes "([^"]*)\\n"', lines) if text}
-    told[9] = re.search(r'^cycleLine n =.*?else bytes "([^"]+)\\n"$', lines, re.M | re.S).group(1)
+    told[9] = re.search(r'^cycle_line n =.*?else bytes "([^"]+)\\n"$', lines, re.M | re.S).group(1)
     return told
 
 

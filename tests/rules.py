@@ -51,7 +51,7 @@ def files():
         path = ROOT / place
         for file in [path] if path.is_file() else sorted(path.rglob("*")):
             name = file.relative_to(ROOT).as_posix()
-            if file.is_file() and file.suffix in KINDS and "/target/" not in name:
+            if file.is_file() and file.suffix in KINDS and not re.match(r"crates/\w+/out/", name):
                 yield name, file
 
 

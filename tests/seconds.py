@@ -1,72 +1,90 @@
 #!/usr/bin/env python3
-"""How the gate's time is spent: the seconds of each proof, of each program's run and of each must-fail edit, the longest first.
+"""How the gate's time is spent: the second at which each crate was proved, and how many proofs, runs and must-fail edits there were.
 
-    python3 tests/seconds.py LOG       of what `rt ci` printed
-    python3 tests/seconds.py check     whether a log written by hand gives the table written by hand
+    python3 tests/seconds.py stamp FILE   passes on what `rt ci` prints, and notes in FILE the second at which each line came
+    python3 tests/seconds.py FILE         the table of such a file
+    python3 tests/seconds.py check        whether notes written by hand give the table written by hand
 
-They are seconds on the wall, and two proofs or edits go side by side: the sum is more than what the gate takes. A crate that was proved
-before, and a line that is none of these, have no row."""
+The seconds are those on the wall since the first line was awaited. Several crates are proved side by side, and edits and runs are told when all
+is proved, so these are counted alone. A crate that an earlier run proved is told apart, and a line that is none of these has no row."""
 import pathlib
 import re
 import sys
+import time
 
 KINDS = {
-    "proof": re.compile(r"rt: (\w+) proved \((\d+) s\)"),
-    "run": re.compile(r"rt: (\w+) ran(?: as nobody)?, and wrote what its file 'stdout' has \((\d+) s\)"),
-    "edit": re.compile(r"rt: must-fail (\w+/\S+): refused, as it must be \((?:first at [^;]*; )?(\d+) s\)"),
+    "proof": re.compile(r"rt: (\w+) proved"),
+    "tests": re.compile(r"rt: (\w+): its tests are proved"),
+    "kept": re.compile(r"rt: (\w+) is kept: .*"),
+    "run": re.compile(r"rt: (\w+ ran(?: \(built by Rattle's own compiler\))?), and wrote what its file stdout has"),
+    "edit": re.compile(r"rt: must-fail (\w+/\S+\.edit): refused, as it must be\b.*"),
 }
 
 SAMPLE = """\
-fn common::fill: proved
-rt: common proved (8 s)
-rt: units proved (unchanged since it was last proved)
-rt: trace proved (40 s)
-rt: model NOT PROVED (exit 1, 5 s)
-rt: must-fail common/fill_with_zero: refused, as it must be (first at proofs/fill/Proof.antt:36:19; 17 s)
-rt: must-fail common/piece_of_511: refused, as it must be (8 s)
-rt: must-fail common/other: NOT REFUSED: the crate is still proved with this edit (9 s)
-rt: trace ran as nobody, and wrote what its file 'stdout' has (1 s)
-rt: script ran, and wrote what its file 'stdout' has (0 s)
-248 passed, 0 failed
+      8 fn common::fill: proved
+      8 rt: common proved
+      8 rt: common: trying its must-fail edits (2)
+      9 rt: units is kept: an earlier run on this machine proved the same files over the same libraries
+     48 rt: desk proved
+     53 rt: model NOT PROVED
+     70 rt: must-fail common/fill_with_zero.edit: refused, as it must be: note: src/lib.rt:21:1: it is not proved that
+     70 rt: must-fail common/piece_of_511.edit: refused, as it must be (only by a limit of the prover, which gave no verdict)
+     70 rt: must-fail common/other.edit: NOT REFUSED: the crate is still proved with this edit
+     71 rt: desk ran, and wrote what its file stdout has
+     71 rt: desk ran (built by Rattle's own compiler), and wrote what its file stdout has
+     72 248 passed, 0 failed
 """
 TABLE = """\
-seconds  what
-     40  proof  trace
-     17  edit   common/fill_with_zero
-      8  edit   common/piece_of_511
+ second  what
       8  proof  common
-      1  run    trace
-      0  run    script
-     74  in all: 2 proofs 48, 2 runs 1, 2 edits 25
+     48  proof  desk
+     72  in all: 2 proofs, 0 of tests, 1 kept, 2 runs, 2 edits refused
 """
 
 
 def rows(log):
-    """Seconds, kind and name of each line that has them."""
+    """Second, kind and name of each line that is one of these."""
     for line in log.split("\n"):
+        at = line[:7].strip()
         for kind, form in KINDS.items():
-            found = form.fullmatch(line.rstrip())
-            if found:
-                yield int(found.group(2)), kind, found.group(1)
+            found = form.fullmatch(line[8:].rstrip())
+            if found and at.isdigit():
+                yield int(at), kind, found.group(1)
 
 
 def table(log):
-    """The table: the longest first, of equal ones by kind and name; and the sums."""
-    found = sorted(rows(log), key=lambda row: (-row[0], row[1], row[2]))
-    lines = [f"{seconds:7}  {kind:5}  {name}" for seconds, kind, name in found]
-    each = {kind: [seconds for seconds, its, _ in found if its == kind] for kind in KINDS}
-    sums = ", ".join(f"{len(of)} {kind}s {sum(of)}" for kind, of in each.items())
-    return "\n".join(["seconds  what", *lines, f"{sum(row[0] for row in found):7}  in all: {sums}", ""])
+    """The table: what was proved, in its order; and how many there are of each kind."""
+    found = list(rows(log))
+    lines = [f"{at:7}  {kind:5}  {name}" for at, kind, name in found if kind in ("proof", "tests")]
+    many = {kind: sum(1 for _, its, _ in found if its == kind) for kind in KINDS}
+    last = max([int(line[:7]) for line in log.split("\n") if line[:7].strip().isdigit()], default=0)
+    sums = f"{many['proof']} proofs, {many['tests']} of tests, {many['kept']} kept, {many['run']} runs, {many['edit']} edits refused"
+    return "\n".join([" second  what", *lines, f"{last:7}  in all: {sums}", ""])
+
+
+def stamp(name):
+    """Passes standard input on, line by line, and notes when each came."""
+    began = time.monotonic()
+    with open(name, "w", encoding="utf-8") as notes:
+        for line in sys.stdin.buffer:
+            text = line.decode(errors="replace")
+            sys.stdout.buffer.write(line)
+            sys.stdout.buffer.flush()
+            notes.write(f"{time.monotonic() - began:7.0f} {text}")
+            notes.flush()
+    return 0
 
 
 def main(words):
-    if len(words) != 1:
-        print("usage: seconds.py LOG | check", file=sys.stderr)
-        return 2
     if words == ["check"]:
         right = table(SAMPLE) == TABLE
         print("seconds: the table is the one written by hand" if right else f"seconds: another table:\n{table(SAMPLE)}")
         return 0 if right else 1
+    if len(words) == 2 and words[0] == "stamp":
+        return stamp(words[1])
+    if len(words) != 1:
+        print("usage: seconds.py stamp FILE | FILE | check", file=sys.stderr)
+        return 2
     print(table(pathlib.Path(words[0]).read_text(encoding="utf-8", errors="replace")), end="")
     return 0
 

@@ -1,8 +1,9 @@
 #!/usr/bin/env python3
-"""Every public function has its uniqueness: for each equation of its contract a theorem NAME-unique or NAME-..-unique stands in
+"""Every public function has its uniqueness: for each equation of its contract a theorem NAME_unique or NAME_.._unique stands in
 proofs/Unique.antt of its crate, and says the contract's own right-hand side, its bound variables standing for the arguments. The C
-functions leave out `tb_`. A slice that is told by its units and its spare byte, both of them in the contract, is covered by the one law
-`left-unique` of units: what has the same units and the same spare byte is the same. (R-promise-1)
+functions leave out `tb_`, and those of a static library NAME_c have the theorems of NAME. A slice that is told by its units and its spare
+byte, both of them in the contract, is covered by the one law `left_unique` of units: what has the same units and the same spare byte is
+the same. (R-promise-1)
 
 `unique.py` compares and ends with 1 where one is missing or says something else; `unique.py list` prints the pairs too."""
 import pathlib
@@ -22,30 +23,32 @@ def tree(text):
         elif word in ")]}":
             group = stack.pop()
             stack[-1].append(group[0] if len(group) == 1 else group)
+        elif "." in word[1:]:
+            stack[-1].append(re.findall(r"\.?[^.]+", word))
         else:
             stack[-1].append(word)
     return stack[0]
 
 
 def clauses(contract):
-    """The facts of each `ensures`."""
-    return [" ".join(fact.split()).replace("Prim.Native.Nat.", "") for fact in re.findall(r"ensures[^{]*\{[^⌜]*⌜(.*?)⌝", contract, re.S)]
+    """The facts of each `ensures`: what stands between its braces."""
+    found = []
+    for start in re.finditer(r"^\s+ensures\b[^{]*\{", contract, re.M):
+        at, open_ = start.end(), 1
+        while open_:
+            open_ += {"{": 1, "}": -1}.get(contract[at], 0)
+            at += 1
+        found.append(" ".join(contract[start.end():at - 1].split()).replace("Prim.Native.Nat.", ""))
+    return found
 
 
 def simple(term):
-    """What a slice holds at the entry is the slice's own name."""
+    """What a slice or a record holds at the entry is its own name."""
     if isinstance(term, str):
         return term
-    out, i = [], 0
-    while i < len(term):
-        here = term[i]
-        after = term[i + 1] if i + 1 < len(term) else None
-        if here == "now" and isinstance(after, list) and len(after) == 2 and after[1] == ".entry":
-            out.append(after[0])
-            i += 2
-        else:
-            out.append(simple(here))
-            i += 1
+    if len(term) > 1 and isinstance(term[0], str) and term[1] in (".now", ".old"):
+        term = term[:1] + term[2:]
+    out = [simple(it) for it in term]
     return out[0] if len(out) == 1 else out
 
 
@@ -132,14 +135,14 @@ def told_by_units(fact, facts):
     """Whether a fact is one of the two that tell a slice by its units and its spare byte, or a slice is told whole beside it."""
     pairs = {"units": "spare", "pairs": "unpaired"}
     pairs.update({b: a for a, b in pairs.items()})
-    found = re.match(r"\(?\w+\b.*?\(now \((\w+) \.exit\)\) ≡", fact)
-    if found and not fact.startswith("now ") and any(f.startswith(f"now ({found.group(1)} .exit) ≡") for f in facts):
+    found = re.match(r"\(?\w+\b.*? (\w+)\.new ≡", fact)
+    if found and any(f.startswith(f"{found.group(1)}.new ≡") for f in facts):
         return True
-    found = re.match(r"\(?(units|spare|pairs|unpaired)\b(.*?)\(now \((\w+) \.exit\)\) ≡", fact, re.S)
+    found = re.match(r"\(?(units|spare|pairs|unpaired)\b(.*? )(\w+)\.new ≡", fact, re.S)
     if not found:
         return False
     head, width, slice_ = found.groups()
-    other = re.compile(r"(^|[( ])" + pairs[head] + re.escape(width) + r"\(now \(" + slice_ + r" \.exit\)\) ≡")
+    other = re.compile(r"(^|[( ])" + pairs[head] + re.escape(width) + slice_ + r"\.new ≡")
     return any(other.search(f) for f in facts)
 
 
@@ -162,7 +165,8 @@ def main():
     for crate in sorted(ROOT.iterdir()):
         if not (crate / "src/lib.rt").exists():
             continue
-        stated = list(theorems(crate / "proofs/Unique.antt"))
+        below = ROOT / crate.name[:-2]
+        stated = list(theorems((below if crate.name.endswith("_c") and below.exists() else crate) / "proofs/Unique.antt"))
         root = (crate / "src/lib.rt").read_text()
         for source in sorted(crate.glob("src/*.rt")):
             if source.name != "lib.rt" and f"pub mod {source.stem};" not in root:
@@ -170,8 +174,8 @@ def main():
             for name, contract in functions_in(source):
                 functions += 1
                 facts = clauses(contract)
-                short = re.sub(r"^tb-", "", name.replace("_", "-"))
-                own = [t for t in stated if t[0].startswith(short + "-") and t[0].endswith("unique")]
+                short = re.sub(r"^tb_", "", name)
+                own = [t for t in stated if t[0].startswith(short + "_") and t[0].endswith("unique")]
                 for fact, right in equations(contract):
                     if told_by_units(fact, facts):
                         continue

@@ -7,7 +7,7 @@
     python3 tests/vectors_script.py expected     their lines, as in crates/vectors_script/stdout
     python3 tests/vectors_script.py write        writes the four files
     python3 tests/vectors_script.py check        whether the four files are what the script prints
-    python3 tests/vectors_script.py against target/bin/desk COUNT SEED
+    python3 tests/vectors_script.py against crates/desk/out/desk COUNT SEED
                                                  whether the program answers COUNT random scripts as the script does: its word script
                                                  the script, its word trace the lines written out
 

@@ -6,7 +6,7 @@
     python3 tests/vectors_trace.py expected     the lines of the cases, as in crates/vectors_trace/stdout
     python3 tests/vectors_trace.py write        writes these files
     python3 tests/vectors_trace.py check        whether they are what the script prints
-    python3 tests/vectors_trace.py against target/bin/desk trace COUNT SEED
+    python3 tests/vectors_trace.py against crates/desk/out/desk trace COUNT SEED
                                                 whether the program's word trace, or table, answers COUNT random traces as the script does
 
 The program `vectors_trace` runs every case by the rules and then every case by the table: the same lines twice. A line shows: the

@@ -26,7 +26,7 @@ pub wear_back : (w : Wear) → wear_in (wear_out w) ≡ w
 wear_back = border.wear_back
 
 pub state_back_lem : (s : State) → state_in (state_out s) ≡ s
-state_back_lem = border.state-back
+state_back_lem = border.state_back_lem
 
 pub cycle_back : (c : Cycle) → cycle_in (cycle_out c) ≡ c
 cycle_back = border.cycle_back

@@ -1,7 +1,8 @@
 // Device, state, cycle, and what a cycle answers, as plain numbers.
 ghost use Rattle.std.specs.Prelude.{◌≡◌};
 ghost use Rattle.c_cycle.specs.Values.{number_in, part_in, flag_out, device_in, pins_in, mode_in, mode_out, phase_in, phase_out, data_out};
-ghost use Rattle.c_cycle.specs.Values.{stray_data, stray_suspend, no_state, state_in, state_out, kind_in, kind_out, oe_in, cycle_in, cycle_out};
+ghost use Rattle.c_cycle.specs.Values.{stray_data, stray_suspend, no_state, state_in, state_out, kind_in, kind_out, oe_in, cycle_in};
+ghost use Rattle.c_cycle.specs.Values.{cycle_out};
 ghost use Rattle.c_cycle.specs.Answers.{state_back, seen_out, value_out, answer_out};
 
 use crate::counts::{wear_in, wear_out};

@@ -11,13 +11,14 @@ ghost use Rattle.c_functions.specs.Geometry.{size_returned, block_returned};
 ghost use Rattle.c_cycle.specs.Answers.{cycled, array_cycled};
 ghost use Rattle.c_functions.specs.Calls.{started, load_started, verify_started, run_of};
 ghost use Rattle.c_steps.specs.Steps.{stepped_of, scratch_stepped};
-ghost use Rattle.c_functions.specs.Calls.{array_run, scratch_run, load_run_of, array_load_run, scratch_load_run, verify_run_of, array_verify_run};
+ghost use Rattle.c_functions.specs.Calls.{array_run, scratch_run, load_run_of, array_load_run, scratch_load_run, verify_run_of};
+ghost use Rattle.c_functions.specs.Calls.{array_verify_run};
 ghost use Rattle.c_functions.specs.Calls.{scratch_verify_run, load_of, array_load, wanted_load, scratch_load, verify_file_of};
 ghost use Rattle.c_functions.specs.Calls.{array_verify_file, wanted_verify_file, scratch_verify_file, written_of, file_left, file_read};
 ghost use Rattle.c_functions.specs.Calls.{payload_left, reading_returned, reading_read, wear_added, wear_reported};
 
 use c_cycle::{AnswerNumbers, BusNumbers, DeviceNumbers, StateNumbers, WearNumbers};
-use c_ordinary::{command_of, is_fair, is_resting, rested};
+use c_ordinary::{command_by, is_fair, is_resting, rested};
 use c_readings::ReadingNumbers;
 use c_records::{
     BlockNumbers, LoaderNumbers, RanNumbers, ResponseNumbers, SayingNumbers, SizedNumbers,
@@ -89,7 +90,7 @@ pub extern "C" fn tb_cycle(
                         return rested(state, 1, units::wide(state.status), 1, state.status, 0);
                     }
                 }
-                let set = command_of(device.number, bus.kind, bus.data, state.mode, state.status);
+                let set = command_by(device.number, bus.kind, bus.data, state.mode, state.status);
                 if set.known {
                     return rested(state, 0, 0, set.mode, set.status, set.phase);
                 }

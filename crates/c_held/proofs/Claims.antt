@@ -11,7 +11,7 @@ use Rattle.c_held.proofs.Border as border
 
 -- There and back: the two records have numbers, and these numbers stand for them.
 pub held_back_lem : (q : Pair) → held_in (held_out q) ≡ q
-held_back_lem = border.held_back
+held_back_lem = border.held_back_lem
 
 -- Records that are not moved go back as the numbers that came, those that stand for none too.
 pub held_same : (n : HeldNumbers) → held_back n (held_in n) ≡ n

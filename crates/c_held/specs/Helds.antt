@@ -98,7 +98,8 @@ word_in n = (held_in n).loader.part.word
 -- a step: what it says and the records, scratch, and the room
 unfoldable pub stepped_held : HeldNumbers → ℕ → List ℕ → List ℕ → List ℕ → List ℕ → List ℕ → HeldResponseNumbers
 stepped_held n v w sc ps bs room =
-    held_response_back n (step_held_response (held_in n).loader (held_in n).hold v (lent (word_in n) w) (lent (word_in n) sc) ps bs (length room))
+    held_response_back n (step_held_response (held_in n).loader (held_in n).hold v (lent (word_in n) w) (lent (word_in n) sc) ps bs
+    (length room))
 
 -- .. what it leaves in scratch
 unfoldable pub scratch_stepped_held : HeldNumbers → ℕ → List ℕ → List ℕ → List ℕ → List ℕ → List ℕ

@@ -4,7 +4,7 @@ use mathlib.Core.Bool.{Bool, true, false, not, ◌&&◌, ◌||◌}
 use Prim.Native.Nat.{ℕ, ◌≤◌, ◌<◌}
 use native.Mathlib.Omega.{arith}
 use lib.Dec.{eqb, ltb, leb}
-use borrow.Author.Tests.{leb-true, leb-false, le-leb, lt-leb, not-false}
+use borrow.Author.Tests.{eqb-true, leb-true, leb-false, le-leb, lt-leb, not-false}
 use Rattle.std.specs.Prelude.{if◌then◌else◌}
 use Rattle.common.proofs.Choice.{if_same, if_false, and_left, and_right, or_left, or_right, unlike}
 use Rattle.device.specs.Parts.{is_large, unknown_part, size_of}
@@ -12,9 +12,9 @@ use Rattle.model_levels.specs.Levels.{vpp_low, vpp_high, at_twelve, at_five, bad
 use Rattle.c_cycle.specs.Values.{number_in, device_in, pins_in, cycle_in}
 use Rattle.c_cycle.specs.declared.DeviceNumbers.{DeviceNumbers}
 use Rattle.c_cycle.specs.declared.BusNumbers.{BusNumbers}
-use Rattle.c_ordinary.specs.Ordinary.{units_for, level_in, timed_in, Fair}
-use Rattle.c_ordinary.proofs.Sufficient.{fits, fair_is, known_number, known_part}
-use Rattle.c_operations.specs.Operations.{Supplied, Cutting, up_in}
+use Rattle.c_ordinary.specs.Ordinary.{units_for, level_in, fair_level_in, timed_in, Fair}
+use Rattle.c_ordinary.proofs.Sufficient.{fits, level_up, level_most, fair_is, fair_at, known_number, known_part}
+use Rattle.c_operations.specs.Operations.{Supplied, Cutting, raised_in, up_in}
 
 -- VPP at 12 V, or at 5 V on devices 5 to 8, is not low
 supplied : (d : DeviceNumbers) (rp wp vpp : ℕ) → unknown_part (device_in d).part ≡ false → ((11400 ≤ vpp → ⊥) → (4500 ≤ vpp) × (5 ≤ d.number))
@@ -43,8 +43,8 @@ up_is number rp vpp = go (eqb rp 0) (leb 11400 vpp) refl
     go false false q e = (refl, (λ h. (leb-true 4500 vpp (and_left (leb 4500 vpp) (leb 5 number) e), leb-true 5 number (and_right (leb 4500 vpp) (leb 5 number) e))))
 
 -- for code
-pub supplies : (d : DeviceNumbers) (b : BusNumbers) (len : ℕ) → Fair d b len → up_in d.number b.rp b.vpp ≡ true → Supplied d b len
-supplies d b len f e =
+pub supplies_fair : (d : DeviceNumbers) (b : BusNumbers) (len : ℕ) → Fair d b len → up_in d.number b.rp b.vpp ≡ true → Supplied d b len
+supplies_fair d b len f e =
     let u = up_is d.number b.rp b.vpp e in
     record { ordinary = record { fair = f; up = u.0 }; supplied = supplied d b.rp b.wp b.vpp (known_part d f.known) u.1 }
 
@@ -89,18 +89,40 @@ cutting d b len f e h = record { low = falls d b len f e; unwritten = λ z. go (
     go false z h q = refl
 
 -- for code: RP# may be low
-pub fairs : (d : DeviceNumbers) (b : BusNumbers) (len : ℕ) → timed_in d ≡ true → level_in b.rp b.oe b.wp b.vpp ≡ true
+pub fairs_at : (d : DeviceNumbers) (b : BusNumbers) (len : ℕ) → timed_in d ≡ true → fair_level_in b.rp b.oe b.wp b.vpp ≡ true
     → (u : ℕ) → u ≡ units_for d.number d.word len → b.address < u → b.kind ≤ 2 → Fair d b len × (u ≡ size_of (device_in d).part)
-fairs d b len t l u e i k =
+fairs_at d b len t l u e i k =
     let some : b.address < units_for d.number d.word len = omega (arith, i, e) in
     let f = fits d.number d.word len (omega (arith, some)) in
-    (fair_is d b len t l some k, e ∙ f.whole)
+    (fair_at d b len t l some k, e ∙ f.whole)
 
 -- the same of a cycle with RP# up, by its tests alone
-pub supplies_up : (d : DeviceNumbers) (b : BusNumbers) (len : ℕ) → timed_in d ≡ true → level_in b.rp b.oe b.wp b.vpp ≡ true → eqb b.rp 0 ≡ false
+pub supplies_up : (d : DeviceNumbers) (b : BusNumbers) (len : ℕ) → timed_in d ≡ true → fair_level_in b.rp b.oe b.wp b.vpp ≡ true → eqb b.rp 0 ≡ false
     → ((11400 ≤ b.vpp → ⊥) → (4500 ≤ b.vpp) × (5 ≤ d.number)) → (u : ℕ) → u ≡ units_for d.number d.word len → b.address < u
     → (b.kind ≤ 2 → Supplied d b len) × (u ≡ size_of (device_in d).part)
 supplies_up d b len t l z h u e i =
     let some : b.address < units_for d.number d.word len = omega (arith, i, e) in
     let f = fits d.number d.word len (omega (arith, some)) in
-    ((λ k. record { ordinary = record { fair = fair_is d b len t l some k; up = z }; supplied = supplied d b.rp b.wp b.vpp f.known h }), e ∙ f.whole)
+    ((λ k. record { ordinary = record { fair = fair_at d b len t l some k; up = z }; supplied = supplied d b.rp b.wp b.vpp f.known h }), e ∙ f.whole)
+
+-- .. and by the levels that are good with RP# up
+pub supplies : (d : DeviceNumbers) (b : BusNumbers) (len : ℕ) → timed_in d ≡ true → level_in b.rp b.oe b.wp b.vpp ≡ true
+    → ((11400 ≤ b.vpp → ⊥) → (4500 ≤ b.vpp) × (5 ≤ d.number)) → (u : ℕ) → u ≡ units_for d.number d.word len → b.address < u
+    → (b.kind ≤ 2 → Supplied d b len) × (u ≡ size_of (device_in d).part)
+supplies d b len t l h u e i =
+    let z = level_up b.rp b.oe b.wp b.vpp l in
+    supplies_up d b len t z.0 z.1 h u e i
+
+-- a fair cycle by the levels with RP# as it is up
+pub fairs : (d : DeviceNumbers) (b : BusNumbers) (len : ℕ) → timed_in d ≡ true → (q : ℕ) → q ≡ raised_in b.rp → level_in q b.oe b.wp b.vpp ≡ true
+    → (u : ℕ) → u ≡ units_for d.number d.word len → b.address < u → (b.kind ≤ 2 → Fair d b len) × (u ≡ size_of (device_in d).part)
+unfolding raised_in
+fairs d b len t q p l u e i =
+    let some : b.address < units_for d.number d.word len = omega (arith, i, e) in
+    let f = fits d.number d.word len (omega (arith, some)) in
+    let m = level_most q b.oe b.wp b.vpp l in
+    ((λ k. fair_is d b len q t l (least (eqb b.rp 0) refl m) some k), e ∙ f.whole)
+  where
+    least : (s : Bool) → eqb b.rp 0 ≡ s → q ≤ 2 → b.rp ≤ 2
+    least true g m = omega (arith, eqb-true b.rp 0 g)
+    least false g m = let h : q ≡ b.rp = p ∙ simp g in omega (arith, m, h)

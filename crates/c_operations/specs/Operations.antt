@@ -98,6 +98,10 @@ pub record Supplied (d : DeviceNumbers) (b : BusNumbers) (len : ℕ) : Type 0 wh
   pub ordinary : Ordinary d b len
   pub supplied : vpp_low (device_in d).part (cycle_in b).pins ≡ false
 
+-- RP# as it is up
+unfoldable pub raised_in : ℕ → ℕ
+raised_in rp = if eqb rp 0 then 1 else rp
+
 -- an operation goes on, where the levels are good: RP# is up, and VPP not low
 unfoldable pub up_in : ℕ → ℕ → ℕ → Bool
 up_in number rp vpp = if eqb rp 0 then false else if leb 11400 vpp then true else leb 4500 vpp && leb 5 number

@@ -17,7 +17,7 @@ ghost use Rattle.c_answers.specs.Answers.{ended_as};
 use c_answers::{cut, ended, given, polled, refused, typed, worn, written};
 use c_cycle::states::{part_in, pins_in};
 use c_cycle::{AnswerNumbers, BusNumbers, DeviceNumbers, StateNumbers};
-use c_ordinary::{command_of, is_level, is_resting, is_timed, key_of, units_of};
+use c_ordinary::{command_by, is_fair_level, is_resting, is_timed, key_of, units_of};
 use model_levels::unlocked;
 use model_rules::{code_place, identifier};
 
@@ -208,7 +208,7 @@ fn suspended_write(
         }
     }
     if is_resting(n) {
-        let set = command_of(d.number, 1, b.data, n.mode, n.status);
+        let set = command_by(d.number, 1, b.data, n.mode, n.status);
         if !set.known {
             return refused(n, 7);
         }
@@ -342,7 +342,7 @@ fn fair_units(d: DeviceNumbers, b: BusNumbers, len: usize) -> usize
     if !is_timed(d) {
         return 0;
     }
-    if is_level(b.rp, b.oe, b.wp, b.vpp) {
+    if is_fair_level(b.rp, b.oe, b.wp, b.vpp) {
         let units = units_of(d.number, d.word, len);
         if (b.address as usize) < units {
             if b.kind < 3 {

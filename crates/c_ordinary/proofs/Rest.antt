@@ -50,7 +50,7 @@ use Rattle.c_cycle.specs.declared.StateNumbers.{StateNumbers}
 use Rattle.c_cycle.specs.declared.BusNumbers.{BusNumbers}
 use Rattle.c_cycle.specs.declared.AnswerNumbers.{AnswerNumbers}
 use Rattle.c_cycle.proofs.Border.{mode_number, state_numbers}
-use Rattle.c_ordinary.specs.Ordinary.{Ordinary, Resting, rested_as, seldom_of, commanded_of}
+use Rattle.c_ordinary.specs.Ordinary.{Ordinary, Resting, rested_as, seldom_of, commanded_by}
 use Rattle.c_ordinary.specs.declared.Commanded.{Commanded}
 use Rattle.c_ordinary.proofs.Sufficient.{known_number, known_part}
 use Rattle.c_ordinary.proofs.Passing.{Stands}
@@ -199,8 +199,8 @@ module _ (d : DeviceNumbers) (n : StateNumbers) (b : BusNumbers) (xs rs : List �
       (λ m k. absurd (unlike (sym k))))
 
   -- for code: what is no read
-  pub command_told : (t : Commanded) → t ≡ commanded_of large b.kind (b.data % 256) n.mode n.status → Answers t
-  unfolding commanded_of first_write asks_program
+  pub command_told : (t : Commanded) → t ≡ commanded_by large b.kind (b.data % 256) n.mode n.status → Answers t
+  unfolding commanded_by first_write asks_program
   command_told t e = subst Answers (sym e) chain
     where
       y : ℕ
@@ -209,7 +209,7 @@ module _ (d : DeviceNumbers) (n : StateNumbers) (b : BusNumbers) (xs rs : List �
       w : not (eqb b.kind 1) ≡ false → b.kind ≡ 1
       w q = eqb-true b.kind 1 (not-false (eqb b.kind 1) q)
 
-      chain : Answers (commanded_of large b.kind y n.mode n.status)
+      chain : Answers (commanded_by large b.kind y n.mode n.status)
       chain =
           if_ind Answers (eqb b.kind 2) _ _ (λ q k. (idle_answer (eqb-true b.kind 2 q), unwritten Quiet S (idle (eqb-true b.kind 2 q))))
           (λ z. if_ind Answers (not (eqb b.kind 1)) _ _ (λ q k. absurd (unlike (sym k)))
@@ -235,8 +235,8 @@ module _ (d : DeviceNumbers) (n : StateNumbers) (b : BusNumbers) (xs rs : List �
       ((λ i. record { seen = seen; value = v; state = sym (goes_back n r S ∙ numbers) i }) ∙ sym f ∙ answered reply S e, unwritten reply S e)
 
   -- for code: a write of what is no command
-  pub no_command : b.kind ≡ 1 → (t : Commanded) → t ≡ commanded_of large 1 (b.data % 256) n.mode n.status → t.known ≡ false → Leaves 2 7
-  unfolding commanded_of seldom_of first_write asks_program kind_in decide_write command_of
+  pub no_command : b.kind ≡ 1 → (t : Commanded) → t ≡ commanded_by large 1 (b.data % 256) n.mode n.status → t.known ≡ false → Leaves 2 7
+  unfolding commanded_by seldom_of first_write asks_program kind_in decide_write command_of
   no_command k t e u = leaves (Refuses 7) 2 7 (up_kind Write (kind_is 1 k) ∙ ap (λ (x : Action). decide_write x D S C (settled_as S Nothing)) (chain (sym (ap (λ (x : Commanded). x.known) e) ∙ u))) refl
     where
       y : ℕ
@@ -245,7 +245,7 @@ module _ (d : DeviceNumbers) (n : StateNumbers) (b : BusNumbers) (xs rs : List �
       Refuses-it : Commanded → Type 0
       Refuses-it x = x.known ≡ false → first_write D.part y ≡ Refuse
 
-      chain : Refuses-it (commanded_of large 1 y n.mode n.status)
+      chain : Refuses-it (commanded_by large 1 y n.mode n.status)
       chain =
           if_ind Refuses-it (eqb y 0xFF) _ _ (λ f h. absurd (unlike h))
           (λ m1. if_ind Refuses-it (eqb y 0x90) _ _ (λ f h. absurd (unlike h))
@@ -273,8 +273,8 @@ module _ (d : DeviceNumbers) (n : StateNumbers) (b : BusNumbers) (xs rs : List �
       leaves (Gives (identifier_of D.part b.address)) 1 v (reads_code e m ∙ simp l) (λ i. record { seen = 1; value = sym f i; state = state_back n S })
 
 -- for code: a command that is known comes with a kind that there is
-pub known_kind : (large : Bool) (kind byte mode sr : ℕ) (t : Commanded) → t ≡ commanded_of large kind byte mode sr → t.known ≡ true → kind ≤ 2
-unfolding commanded_of
+pub known_kind : (large : Bool) (kind byte mode sr : ℕ) (t : Commanded) → t ≡ commanded_by large kind byte mode sr → t.known ≡ true → kind ≤ 2
+unfolding commanded_by
 known_kind large kind byte mode sr t e k =
     subst (λ (x : Commanded). x.known ≡ true → kind ≤ 2) (sym e)
     (if_ind (λ (x : Commanded). x.known ≡ true → kind ≤ 2) (eqb kind 2) _ _ (λ q h. omega (arith, eqb-true kind 2 q))

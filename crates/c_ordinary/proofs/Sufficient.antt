@@ -6,7 +6,7 @@ use native.Mathlib.Omega.{arith}
 use lib.Dec.{eqb, ltb, leb}
 use borrow.Author.Tests.{eqb-true, eqb-false, ltb-true, ltb-false, leb-true, leb-false, not-true, not-false, eq-eqb, ne_eqb, le-ltb, le-leb}
 use Rattle.std.specs.Prelude.{if◌then◌else◌}
-use Rattle.common.proofs.Choice.{if_same, and_left, and_right, unlike}
+use Rattle.common.proofs.Choice.{if_same, if_false, and_left, and_right, unlike}
 use Rattle.units.specs.Units.{units_in, torn, lent_in}
 use Rattle.device.specs.declared.Part.{Part}
 use Rattle.device.specs.Parts.{row_of, in_words, shape_of, size_in, is_large, unknown_part, unknown_device, size_of}
@@ -16,7 +16,8 @@ use Rattle.c_cycle.specs.Values.{number_in, part_in, device_in, pins_in}
 use Rattle.c_cycle.specs.declared.DeviceNumbers.{DeviceNumbers}
 use Rattle.c_cycle.specs.declared.StateNumbers.{StateNumbers}
 use Rattle.c_cycle.specs.declared.BusNumbers.{BusNumbers}
-use Rattle.c_ordinary.specs.Ordinary.{bytes_for, units_for, level_in, timed_in, fair_in, key_of, resting_in, Fair, Resting}
+use Rattle.c_ordinary.specs.Ordinary.{bytes_for, units_for, level_in, fair_level_in, timed_in, ordinary_in, fair_in, key_of, resting_in}
+use Rattle.c_ordinary.specs.Ordinary.{Fair, Ordinary, Resting}
 
 -- a test that says no, and one that says yes, on the way to true
 past : (t x : Bool) → (if t then false else x) ≡ true → (t ≡ false) × (x ≡ true)
@@ -55,8 +56,8 @@ pub record Levelled (rp oe wp vpp : ℕ) : Type 0 where
   pub normal : oe ≡ 0
   pub pins : (part : Part) → bad_pins part (pins_in rp wp vpp) ≡ false
 
-pub levelled : (rp oe wp vpp : ℕ) → level_in rp oe wp vpp ≡ true → Levelled rp oe wp vpp
-unfolding level_in bad_pins bad_wp
+pub levelled : (rp oe wp vpp : ℕ) → fair_level_in rp oe wp vpp ≡ true → Levelled rp oe wp vpp
+unfolding fair_level_in bad_pins bad_wp
 levelled rp oe wp vpp e =
     let a = past (not (eqb oe 0)) _ e in
     let b = past (ltb 1 wp) _ a.1 in
@@ -142,10 +143,10 @@ fits number word len l = go (eqb (bytes_for number) len) refl (eqb word 0) refl 
     go true e false f true g false h m = subst (λ (w : ℕ). Sized number w len (len / 2)) (sym (eqb-true word 1 g)) (sized_words number len m (ltb-false number 5 h) (eqb-true (bytes_for number) len e))
 
 -- for code: times that there are, levels that are good, and an address inside
-pub fair_is : (n : DeviceNumbers) (b : BusNumbers) (len : ℕ) → timed_in n ≡ true → level_in b.rp b.oe b.wp b.vpp ≡ true
+pub fair_at : (n : DeviceNumbers) (b : BusNumbers) (len : ℕ) → timed_in n ≡ true → fair_level_in b.rp b.oe b.wp b.vpp ≡ true
     → b.address < units_for n.number n.word len → b.kind ≤ 2 → Fair n b len
 unfolding timed_in unknown_device
-fair_is n b len t e u k =
+fair_at n b len t e u k =
     let p = past (eqb n.program 0) _ t in
     let z = past (eqb n.erase 0) _ p.1 in
     let r = past (eqb n.suspend 0) _ z.1 in
@@ -166,9 +167,52 @@ pub fair_in_lem : (n : DeviceNumbers) (b : BusNumbers) (len : ℕ) → fair_in n
 unfolding fair_in
 fair_in_lem n b len e k =
     let x = past (not (timed_in n)) _ e in
-    let t = both (level_in b.rp b.oe b.wp b.vpp) _ x.1 in
+    let t = both (fair_level_in b.rp b.oe b.wp b.vpp) _ x.1 in
     let u = ltb-true b.address (units_for n.number n.word len) t.1 in
-    fair_is n b len (not-false (timed_in n) x.0) t.0 u k
+    fair_at n b len (not-false (timed_in n) x.0) t.0 u k
+
+-- levels that are good with RP# up are good wherever it is
+pub level_up : (rp oe wp vpp : ℕ) → level_in rp oe wp vpp ≡ true → (fair_level_in rp oe wp vpp ≡ true) × (eqb rp 0 ≡ false)
+unfolding level_in fair_level_in
+level_up rp oe wp vpp e =
+    let a = past (not (eqb oe 0)) _ e in
+    let b = past (ltb 1 wp) _ a.1 in
+    let c = past (eqb rp 0) _ b.1 in
+    (if_false (not (eqb oe 0)) false _ a.0 ∙ if_false (ltb 1 wp) false _ b.0 ∙ c.1, c.0)
+
+-- .. their RP# is one that there is, and they are good with any other that there is
+pub level_most : (rp oe wp vpp : ℕ) → level_in rp oe wp vpp ≡ true → rp ≤ 2
+unfolding level_in
+level_most rp oe wp vpp e =
+    let a = past (not (eqb oe 0)) _ e in
+    let b = past (ltb 1 wp) _ a.1 in
+    let c = past (eqb rp 0) _ b.1 in
+    let d = past (ltb 2 rp) _ c.1 in
+    ltb-false 2 rp d.0
+
+pub level_at : (rp q oe wp vpp : ℕ) → level_in q oe wp vpp ≡ true → rp ≤ 2 → fair_level_in rp oe wp vpp ≡ true
+unfolding level_in fair_level_in
+level_at rp q oe wp vpp e h =
+    let a = past (not (eqb oe 0)) _ e in
+    let b = past (ltb 1 wp) _ a.1 in
+    let c = past (eqb q 0) _ b.1 in
+    let d = past (ltb 2 q) _ c.1 in
+    if_false (not (eqb oe 0)) false _ a.0 ∙ if_false (ltb 1 wp) false _ b.0 ∙ if_false (ltb 2 rp) false _ (le-ltb 2 rp h) ∙ d.1
+
+-- times that there are, levels that are good with RP# up, and an address inside
+pub fair_is : (n : DeviceNumbers) (b : BusNumbers) (len q : ℕ) → timed_in n ≡ true → level_in q b.oe b.wp b.vpp ≡ true → b.rp ≤ 2
+    → b.address < units_for n.number n.word len → b.kind ≤ 2 → Fair n b len
+fair_is n b len q t e h u k = fair_at n b len t (level_at b.rp q b.oe b.wp b.vpp e h) u k
+
+-- a cycle that passes the test of an ordinary one, of a kind that there is
+pub ordinary_is : (n : DeviceNumbers) (b : BusNumbers) (len : ℕ) → ordinary_in n b len ≡ true → b.kind ≤ 2 → Ordinary n b len
+unfolding ordinary_in
+ordinary_is n b len e k =
+    let x = past (not (timed_in n)) _ e in
+    let t = both (level_in b.rp b.oe b.wp b.vpp) _ x.1 in
+    let l = level_up b.rp b.oe b.wp b.vpp t.0 in
+    let u = ltb-true b.address (units_for n.number n.word len) t.1 in
+    record { fair = fair_at n b len (not-false (timed_in n) x.0) l.0 u k; up = l.1 }
 
 -- the number of a known part is that of the numbers
 pub known_number : (number word : ℕ) → unknown_part (part_in number word) ≡ false → number_in number word ≡ number

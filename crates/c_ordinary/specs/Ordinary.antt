@@ -34,9 +34,20 @@ units_for number word len =
     else if ltb number 5 then 0
     else len / 2
 
--- levels that are good on every part, with OE# low, wherever RP# is: VPP at 12 V, at 5 V (low on devices 1 to 4), or at 1,500 mV and below
+-- levels that are good on every part, with RP# up and OE# low: VPP at 12 V, at 5 V (low on devices 1 to 4), or at 1,500 mV and below
 unfoldable pub level_in : ℕ → ℕ → ℕ → ℕ → Bool
 level_in rp oe wp vpp =
+    if not (eqb oe 0) then false
+    else if ltb 1 wp then false
+    else if eqb rp 0 then false
+    else if ltb 2 rp then false
+    else if leb 11400 vpp then leb vpp 12600
+    else if leb 4500 vpp then leb vpp 5500
+    else leb vpp 1500
+
+-- levels that are good on every part, with OE# low, wherever RP# is: VPP at 12 V, at 5 V (low on devices 1 to 4), or at 1,500 mV and below
+unfoldable pub fair_level_in : ℕ → ℕ → ℕ → ℕ → Bool
+fair_level_in rp oe wp vpp =
     if not (eqb oe 0) then false
     else if ltb 1 wp then false
     else if ltb 2 rp then false
@@ -52,11 +63,18 @@ timed_in n =
     else if eqb n.suspend 0 then false
     else leb n.suspend 100
 
+-- the test of an ordinary cycle on so many bytes, but for its kind
+unfoldable pub ordinary_in : DeviceNumbers → BusNumbers → ℕ → Bool
+ordinary_in n b len =
+    if not (timed_in n) then false
+    else if level_in b.rp b.oe b.wp b.vpp then ltb b.address (units_for n.number n.word len)
+    else false
+
 -- the test of a fair cycle on so many bytes, but for its kind
 unfoldable pub fair_in : DeviceNumbers → BusNumbers → ℕ → Bool
 fair_in n b len =
     if not (timed_in n) then false
-    else if level_in b.rp b.oe b.wp b.vpp then ltb b.address (units_for n.number n.word len)
+    else if fair_level_in b.rp b.oe b.wp b.vpp then ltb b.address (units_for n.number n.word len)
     else false
 
 -- the first four numbers of a state as one
@@ -113,13 +131,26 @@ sets_as mode sr phase = record { known = true; mode = mode; status = sr; phase =
 abbrev pub unset_as : Commanded
 unset_as = record { known = false; mode = 0; status = 0; phase = 0 }
 
+-- what a cycle other than a read sets at rest, by its kind and byte; other bytes are not known here
+unfoldable pub commanded_of : ℕ → ℕ → ℕ → ℕ → Commanded
+commanded_of kind byte mode sr =
+    if eqb kind 2 then sets_as mode sr 0
+    else if not (eqb kind 1) then unset_as
+    else if eqb byte 0xFF then sets_as 0 sr 0
+    else if eqb byte 0x90 then sets_as 2 sr 0
+    else if eqb byte 0x70 then sets_as 1 sr 0
+    else if eqb byte 0x50 then sets_as mode (bit_and sr 0xC7) 0
+    else if eqb byte 0x20 then sets_as 1 sr 1
+    else if eqb byte 0x40 then sets_as 1 sr 2
+    else unset_as
+
 -- what B0H sets at rest, and 10H on a large part; other bytes are not known
 unfoldable pub seldom_of : Bool → ℕ → ℕ → Commanded
 seldom_of large byte sr = if eqb byte 0xB0 then sets_as 0 sr 0 else if large && eqb byte 0x10 then sets_as 1 sr 2 else unset_as
 
 -- what a cycle other than a read sets at rest, by its kind and byte; a byte that is no command is not known
-unfoldable pub commanded_of : Bool → ℕ → ℕ → ℕ → ℕ → Commanded
-commanded_of large kind byte mode sr =
+unfoldable pub commanded_by : Bool → ℕ → ℕ → ℕ → ℕ → Commanded
+commanded_by large kind byte mode sr =
     if eqb kind 2 then sets_as mode sr 0
     else if not (eqb kind 1) then unset_as
     else if eqb byte 0xFF then sets_as 0 sr 0

@@ -3,8 +3,9 @@
 #![tactic(auto)]
 
 ghost use Rattle.std.specs.Prelude.{◌≡◌, ◌<◌, ◌%◌, leb};
-ghost use Rattle.c_ordinary.specs.Ordinary.{bytes_for, units_for, level_in, timed_in, fair_in, key_of, resting_in, rested_as};
-ghost use Rattle.c_ordinary.specs.Ordinary.{sets_as, unset_as, seldom_of, commanded_of};
+ghost use Rattle.c_ordinary.specs.Ordinary.{bytes_for, units_for, level_in, fair_level_in, timed_in, ordinary_in, fair_in, key_of};
+ghost use Rattle.c_ordinary.specs.Ordinary.{resting_in};
+ghost use Rattle.c_ordinary.specs.Ordinary.{rested_as, sets_as, unset_as, commanded_of, seldom_of, commanded_by};
 
 use c_cycle::{AnswerNumbers, BusNumbers, DeviceNumbers, StateNumbers};
 
@@ -53,9 +54,34 @@ pub fn units_of(number: u8, word: u8, len: usize) -> usize
     len / 2
 }
 
-// Levels that are good on every part, with OE# low; RP# may be low.
+// Levels that are good on every part, with RP# up and OE# low.
 pub fn is_level(rp: u8, oe: u8, wp: u8, vpp: u32) -> bool
     ensures { result ≡ level_in rp oe wp vpp }
+{
+    if oe != 0 {
+        return false;
+    }
+    if 1 < wp {
+        return false;
+    }
+    if rp == 0 {
+        return false;
+    }
+    if 2 < rp {
+        return false;
+    }
+    if 11400 <= vpp {
+        return vpp <= 12600;
+    }
+    if 4500 <= vpp {
+        return vpp <= 5500;
+    }
+    vpp <= 1500
+}
+
+// Levels that are good on every part, with OE# low; RP# may be low.
+pub fn is_fair_level(rp: u8, oe: u8, wp: u8, vpp: u32) -> bool
+    ensures { result ≡ fair_level_in rp oe wp vpp }
 {
     if oe != 0 {
         return false;
@@ -91,6 +117,19 @@ pub fn is_timed(n: DeviceNumbers) -> bool
     n.suspend <= 100
 }
 
+// Refusals 1, 2, 4 and 5 do not apply, RP# is up and OE# low.
+pub fn is_ordinary(n: DeviceNumbers, b: BusNumbers, len: usize) -> bool
+    ensures { result ≡ ordinary_in n b len }
+{
+    if !is_timed(n) {
+        return false;
+    }
+    if is_level(b.rp, b.oe, b.wp, b.vpp) {
+        return (b.address as usize) < units_of(n.number, n.word, len);
+    }
+    false
+}
+
 // Refusals 1, 2, 4 and 5 do not apply, and OE# is low.
 pub fn is_fair(n: DeviceNumbers, b: BusNumbers, len: usize) -> bool
     ensures { result ≡ fair_in n b len }
@@ -98,7 +137,7 @@ pub fn is_fair(n: DeviceNumbers, b: BusNumbers, len: usize) -> bool
     if !is_timed(n) {
         return false;
     }
-    if is_level(b.rp, b.oe, b.wp, b.vpp) {
+    if is_fair_level(b.rp, b.oe, b.wp, b.vpp) {
         return (b.address as usize) < units_of(n.number, n.word, len);
     }
     false
@@ -181,24 +220,10 @@ fn unset() -> Commanded
     }
 }
 
-// What the commands set that are seldom written at rest: B0H, and 10H on the parts that know it.
-fn seldom_command(large: bool, byte: u16, status: u8) -> Commanded
-    ensures { result ≡ seldom_of large byte status }
+// What an ordinary write at rest sets, where its byte only turns mode, status or phase. An idle cycle sets what stands.
+pub fn command_of(kind: u8, byte: u16, mode: u8, status: u8) -> Commanded
+    ensures { result ≡ commanded_of kind byte mode status }
 {
-    if byte == 0xB0 {
-        return sets(0, status, 0);
-    }
-    if large & (byte == 0x10) {
-        return sets(1, status, 2);
-    }
-    unset()
-}
-
-// What a write at rest sets, where its byte is a command. An idle cycle sets what stands.
-pub fn command_of(number: u8, kind: u8, data: u16, mode: u8, status: u8) -> Commanded
-    ensures { result ≡ commanded_of (leb 5 number) kind («data» % 256) mode status }
-{
-    let byte = data % 256;
     if kind == 2 {
         return sets(mode, status, 0);
     }
@@ -223,5 +248,50 @@ pub fn command_of(number: u8, kind: u8, data: u16, mode: u8, status: u8) -> Comm
     if byte == 0x40 {
         return sets(1, status, 2);
     }
-    seldom_command(5 <= number, byte, status)
+    unset()
+}
+
+// What the commands set that are seldom written at rest: B0H, and 10H on the parts that know it.
+fn seldom_command(large: bool, byte: u16, status: u8) -> Commanded
+    ensures { result ≡ seldom_of large byte status }
+{
+    if byte == 0xB0 {
+        return sets(0, status, 0);
+    }
+    if large & (byte == 0x10) {
+        return sets(1, status, 2);
+    }
+    unset()
+}
+
+// What a write at rest sets, where its byte is a command. An idle cycle sets what stands.
+pub fn command_by(number: u8, kind: u8, data: u16, mode: u8, sr: u8) -> Commanded
+    ensures { result ≡ commanded_by (leb 5 number) kind («data» % 256) mode sr }
+{
+    let byte = data % 256;
+    if kind == 2 {
+        return sets(mode, sr, 0);
+    }
+    if kind != 1 {
+        return unset();
+    }
+    if byte == 0xFF {
+        return sets(0, sr, 0);
+    }
+    if byte == 0x90 {
+        return sets(2, sr, 0);
+    }
+    if byte == 0x70 {
+        return sets(1, sr, 0);
+    }
+    if byte == 0x50 {
+        return sets(mode, sr & 0xC7, 0);
+    }
+    if byte == 0x20 {
+        return sets(1, sr, 1);
+    }
+    if byte == 0x40 {
+        return sets(1, sr, 2);
+    }
+    seldom_command(5 <= number, byte, sr)
 }

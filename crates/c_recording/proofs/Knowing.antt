@@ -31,7 +31,7 @@ use Rattle.c_cycle.specs.Values.{device_in, no_state, state_in, state_out}
 use Rattle.c_cycle.specs.Answers.{state_back, seen_out, value_out, answer_out, cycled, array_cycled}
 use Rattle.c_cycle.proofs.Border.{state_back_lem}
 use Rattle.c_ordinary.specs.Ordinary.{units_for, timed_in, Ordinary}
-use Rattle.c_ordinary.proofs.Sufficient.{fair_is}
+use Rattle.c_ordinary.proofs.Sufficient.{fair_at}
 use Rattle.c_recording.specs.declared.RecordNumbers.{RecordNumbers}
 use Rattle.c_recording.specs.Records.{heard_in, kind_seen, bus_seen, record_in}
 use Rattle.c_recording.specs.Known.{Usual}
@@ -71,7 +71,7 @@ kind_of r e = if_false (ltb 1 r.seen) 3 r.bus.kind (le-ltb 1 r.seen e)
 pub ordinary : (d : DeviceNumbers) (r : RecordNumbers) (xs : List ℕ) → Usual d r xs → (t : ℕ) → eqb t 0 ≡ false → r.seen ≤ 1 → r.bus.kind ≤ 2
     → Ordinary (timed_as d t) (bus_seen r) (length xs)
 ordinary d r xs u t z e k =
-    record { fair = fair_is (timed_as d t) (bus_seen r) (length xs) (timed_as_lem d t z u.timed) u.level u.inside (omega (arith, k, kind_of r e)); up = u.up }
+    record { fair = fair_at (timed_as d t) (bus_seen r) (length xs) (timed_as_lem d t z u.timed) u.level u.inside (omega (arith, k, kind_of r e)); up = u.up }
 
 module _ (d : DeviceNumbers) (n : StateNumbers) (r : RecordNumbers) (xs : List ℕ) where
   abbrev D : Device

@@ -28,7 +28,7 @@ use Rattle.c_cycle.specs.declared.WearNumbers.{WearNumbers}
 use Rattle.c_cycle.specs.declared.AnswerNumbers.{AnswerNumbers}
 use Rattle.c_cycle.specs.Values.{device_in, phase_in, stray_data, stray_suspend, no_state, state_in, kind_in, cycle_in}
 use Rattle.c_cycle.specs.Answers.{cycled, array_cycled}
-use Rattle.c_ordinary.specs.Ordinary.{units_for, key_of, Ordinary, Resting, rested_as, commanded_of}
+use Rattle.c_ordinary.specs.Ordinary.{units_for, key_of, Ordinary, Resting, rested_as, commanded_by}
 use Rattle.c_ordinary.specs.declared.Commanded.{Commanded}
 use Rattle.c_ordinary.proofs.Rest.{there, at_rest, array_answer, status_answer, reads_array, reads_status, unwritten, command_told, known_kind}
 use Rattle.c_answers.specs.Answers.{seen_in, shown_in, polled_as, written_as, ended_as}
@@ -131,15 +131,15 @@ module _ (d : DeviceNumbers) (r : RecordNumbers) (xs : List ℕ) (u : Usual d r 
         (unwritten (timed_as d 65535) n (bus_seen r) xs [] usual calm _ _ (reads_status (timed_as d 65535) n (bus_seen r) xs [] usual calm reading m) u.bytes)
 
   -- a command, or an idle cycle
-  pub commanded : r.seen ≡ 0 → (t : Commanded) → t ≡ commanded_of (leb 5 d.number) r.bus.kind (r.bus.data % 256) (key % 256) (key / 256 % 256) → t.known ≡ true
+  pub commanded : r.seen ≡ 0 → (t : Commanded) → t ≡ commanded_by (leb 5 d.number) r.bus.kind (r.bus.data % 256) (key % 256) (key / 256 % 256) → t.known ≡ true
       → (k : ℕ) → k ≡ t.mode + 256 * t.status + 65536 * t.phase → t.mode < 256 → t.status < 256 → t.phase < 256
       → (good k 0 w ≡ recorded_of (device_in d) (state_in n) (record_in r) xs) × (xs ≡ bytes_recorded (device_in d) (state_in n) (record_in r) xs)
   commanded g t e h k p m s ph =
       let kind = known_kind (leb 5 d.number) r.bus.kind (r.bus.data % 256) (key % 256) (key / 256 % 256) t e h in
       let few : r.seen ≤ 1 = omega (arith, g) in
       let o = ordinary d r xs u 65535 refl few kind in
-      let f : t ≡ commanded_of (leb 5 d.number) (bus_seen r).kind (r.bus.data % 256) (key % 256) (key / 256 % 256) =
-      e ∙ (λ i. commanded_of (leb 5 d.number) (sym (kind_of r few) i) (r.bus.data % 256) (key % 256) (key / 256 % 256)) in
+      let f : t ≡ commanded_by (leb 5 d.number) (bus_seen r).kind (r.bus.data % 256) (key % 256) (key / 256 % 256) =
+      e ∙ (λ i. commanded_by (leb 5 d.number) (sym (kind_of r few) i) (r.bus.data % 256) (key % 256) (key / 256 % 256)) in
       let a = command_told (timed_as d 65535) n (bus_seen r) xs [] o calm t f h in
       let q =
       quiet d n r xs 65535 (time_longest d n r xs unasked) (counts_right d n r xs unasked) (uncut_free d n r xs unpending) (there n calm) (rested_as n 0 0 t.mode t.status t.phase) a.0 refl g xs (a.1 u.bytes) in

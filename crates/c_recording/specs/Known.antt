@@ -9,7 +9,7 @@ use Rattle.c_cycle.specs.declared.DeviceNumbers.{DeviceNumbers}
 use Rattle.c_cycle.specs.declared.StateNumbers.{StateNumbers}
 use Rattle.c_cycle.specs.declared.WearNumbers.{WearNumbers}
 use Rattle.c_cycle.specs.Values.{device_in, state_in}
-use Rattle.c_ordinary.specs.Ordinary.{units_for, level_in, timed_in}
+use Rattle.c_ordinary.specs.Ordinary.{units_for, fair_level_in, timed_in}
 use Rattle.c_recording.specs.declared.RecordNumbers.{RecordNumbers}
 use Rattle.c_recording.specs.declared.Going.{Going}
 use Rattle.c_recording.specs.declared.Moved.{Moved}
@@ -69,7 +69,7 @@ stepped_to q = record { fault = q.fault; state = state_in (state_of q.key q.rest
 
 -- a record with good levels, RP# up, at an address inside, on bytes of the device's own number
 pub record Usual (d : DeviceNumbers) (r : RecordNumbers) (xs : List ℕ) : Type 0 where
-  pub level : level_in r.bus.rp r.bus.oe r.bus.wp r.bus.vpp ≡ true
+  pub level : fair_level_in r.bus.rp r.bus.oe r.bus.wp r.bus.vpp ≡ true
   pub up : eqb r.bus.rp 0 ≡ false
   pub timed : timed_in d ≡ true
   pub inside : r.bus.address < units_for d.number d.word (length xs)

@@ -16,7 +16,7 @@ ghost use Rattle.c_recording.specs.Known.{Usual, Calm, Awaits, Polls, Holds, Era
 
 use c_cycle::states::{device_in, part_in, state_in, state_out};
 use c_cycle::{BusNumbers, DeviceNumbers, StateNumbers, WearNumbers};
-use c_ordinary::{command_of, is_level, is_timed, key_of, units_of};
+use c_ordinary::{command_by, is_fair_level, is_timed, key_of, units_of};
 use recording_walk::Walk;
 
 // A record: the cycle, whether data were seen, these data, and the busy count.
@@ -154,7 +154,7 @@ fn rest_write(d: DeviceNumbers, key: u32, r: RecordNumbers) -> Moved
     if r.seen != 0 {
         return unknown();
     }
-    let set = command_of(
+    let set = command_by(
         d.number,
         r.bus.kind,
         r.bus.data,
@@ -462,7 +462,7 @@ fn quick(
     if r.bus.rp == 0 {
         return unknown();
     }
-    if is_level(r.bus.rp, r.bus.oe, r.bus.wp, r.bus.vpp) {
+    if is_fair_level(r.bus.rp, r.bus.oe, r.bus.wp, r.bus.vpp) {
         if rest == 0 {
             return at_rest(array, d, key, r);
         }

@@ -33,7 +33,7 @@ use Rattle.c_records.specs.declared.SayingNumbers.{SayingNumbers}
 use Rattle.c_records.proofs.Border.{record_numbers}
 use Rattle.c_steps.specs.declared.Next.{Next}
 use Rattle.c_steps.specs.Steps.{word_in, stepped_of, scratch_stepped}
-use Rattle.c_steps.specs.Inner.{GoesOn, GoesTo, on_to, Takes}
+use Rattle.c_steps.specs.Inner.{GoesOn, GoesTo, on_to_at, Takes}
 
 module _ (n : LoaderNumbers) (v : ℕ) (wanted scratch : List ℕ) (z : step_number (loader_in n) (length (lent (word_in n) wanted)) (length (lent (word_in n) scratch)) ≡ 0) where
   abbrev l : Loader
@@ -69,7 +69,7 @@ module _ (n : LoaderNumbers) (v : ℕ) (wanted scratch : List ℕ) (z : step_num
     unfolding here_of
     here_is = if_true (ltb r.place 16777216) (first_address M + r.place) (first_address M) (lt-ltb r.place 16777216 (omega (arith, near))) ∙ ap (λ (a : ℕ). a + r.place) first_is
 
-    said : saying_out (response_at M W).saying ≡ (on_to n n.rp n.wp n.vpp first r W).turn
+    said : saying_out (response_at M W).saying ≡ (on_to_at n n.rp n.wp n.vpp first r W).turn
     said =
         (λ i.
         saying_out
@@ -87,7 +87,7 @@ module _ (n : LoaderNumbers) (v : ℕ) (wanted scratch : List ℕ) (z : step_num
           address = address_in r.here (first_is i) (here_is i);
         }))
 
-    left : loader_back n M ≡ (on_to n n.rp n.wp n.vpp first r W).loader
+    left : loader_back n M ≡ (on_to_at n n.rp n.wp n.vpp first r W).loader
     unfolding loader_back
     left =
         if_false (no_record n) n (loader_out M) record_is
@@ -123,7 +123,7 @@ module _ (n : LoaderNumbers) (v : ℕ) (wanted scratch : List ℕ) (z : step_num
           place = r.place;
         })
 
-    pub answer : on_to n n.rp n.wp n.vpp first r W ≡ stepped_of n v wanted scratch
+    pub answer : on_to_at n n.rp n.wp n.vpp first r W ≡ stepped_of n v wanted scratch
     unfolding stepped_of
     answer =
         let g : response_at M W ≡ step_response l v (lent (word_in n) wanted) (lent (word_in n) scratch) =

@@ -68,9 +68,42 @@ moved_on n r =
       place = r.place;
     }
 
--- the answer of such a step: the cycle that is out, at these levels, and the record moved on
-abbrev pub on_to : LoaderNumbers → ℕ → ℕ → ℕ → ℕ → Next → List ℕ → ResponseNumbers
-on_to n rp wp vpp first r w =
+-- the answer of such a step: the cycle that is out, and the record moved on
+abbrev pub on_to : LoaderNumbers → ℕ → Next → List ℕ → ResponseNumbers
+on_to n first r w =
+    record {
+      turn = saying_at 0 0 0
+          (record {
+            kind = r.kind;
+            rp = n.rp;
+            oe = 0;
+            wp = n.wp;
+            «data» = if r.own then get_or w r.place 0
+                else r.command;
+            vpp = n.vpp;
+            address = if r.here then first + r.place
+                else first;
+          });
+      loader =
+          record {
+            part = n.part;
+            word = n.word;
+            rp = n.rp;
+            wp = n.wp;
+            block = n.block;
+            stage = r.stage;
+            end = 0;
+            verify = n.verify;
+            high = 0;
+            vpp = n.vpp;
+            polls = r.polls;
+            place = r.place;
+          };
+    }
+
+-- .. at these levels, of a record whose end and high byte stay
+abbrev pub on_to_at : LoaderNumbers → ℕ → ℕ → ℕ → ℕ → Next → List ℕ → ResponseNumbers
+on_to_at n rp wp vpp first r w =
     record {
       turn = saying_at 0 0 0
           (record {

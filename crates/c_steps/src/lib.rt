@@ -12,7 +12,7 @@ ghost use Rattle.units.specs.Units.{units, bytes_in, carried};
 ghost use Rattle.loader_stores.specs.Stores.{store_of, program_stored};
 ghost use Rattle.c_records.specs.Records.{loader_in};
 ghost use Rattle.c_steps.specs.Steps.{stepped_of, scratch_stepped, started_of};
-ghost use Rattle.c_steps.specs.Inner.{gives, GoesOn, GoesTo, moved_on, on_to, Takes};
+ghost use Rattle.c_steps.specs.Inner.{gives, GoesOn, GoesTo, moved_on, on_to_at, Takes};
 ghost use Rattle.c_steps.specs.Inner.{stage_for, verify_for, command_for, first_record, first_turn};
 
 use c_cycle::BusNumbers;
@@ -252,7 +252,7 @@ fn on_to(
     wanted: &[u8],
 ) -> ResponseNumbers
     requires { (first ≤ 524288) × (r.place ≤ 524288) }
-    ensures { result ≡ on_to n rp wp vpp first r (units word wanted.now) }
+    ensures { result ≡ on_to_at n rp wp vpp first r (units word wanted.now) }
 {
     let address = address_in(first, r.here, r.place);
     let carried = data_in(word, r.own, r.place, r.command, wanted);

@@ -3,7 +3,8 @@
 #![tactic(auto)]
 
 ghost use Rattle.std.specs.Prelude.{◌≡◌};
-ghost use Rattle.c_store.specs.Calls.{found_out, store_found, room_found, store_read, room_read, dropped, store_dropped, added, store_added};
+ghost use Rattle.c_store.specs.Calls.{found_out, store_found, room_found, store_read, room_read, dropped, store_dropped, added};
+ghost use Rattle.c_store.specs.Calls.{store_added};
 
 use c_cycle::{DeviceNumbers, StateNumbers};
 use c_readings::ReadingNumbers;

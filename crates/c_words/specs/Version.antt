@@ -11,7 +11,7 @@ minor = 11
 
 -- the patch number of the version
 abbrev pub patch : ℕ
-patch = 4
+patch = 3
 
 -- the three numbers as one
 abbrev pub version : ℕ

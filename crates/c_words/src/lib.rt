@@ -69,7 +69,7 @@ const MAJOR: u32 = 0;
 
 const MINOR: u32 = 11;
 
-const PATCH: u32 = 4;
+const PATCH: u32 = 3;
 
 const VERSION: u32 = MAJOR * 10000 + MINOR * 100 + PATCH;
 

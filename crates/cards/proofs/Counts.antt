@@ -54,7 +54,7 @@ held_there xs w held lw h = ap (λ (a : ℕ). held_in a (length w) xs) first ∙
 
 counts : (n : ℕ) (erases : Bool) (held w : List ℕ) → length w ≡ 512 → Bytes w → formula device_t w held ≡ n → rises_in w held ≡ erases → Counts n erases held w
 counts n erases held w lw bytes f r xs sc bx lx ls h =
-    mission.ends-well true (job_of (Load true) device_t fresh_state normal 1) xs w sc (starts xs w sc bx lx lw ls bytes)
+    mission.ends_well_lem true (job_of (Load true) device_t fresh_state normal 1) xs w sc (starts xs w sc bx lx lw ls bytes)
     ∙ ap (λ (ys : List ℕ). result (formula device_t w ys) (rises_in w ys)) (held_there xs w held lw h)
     ∙ ap₂ result f r
   where
@@ -64,7 +64,7 @@ counts n erases held w lw bytes f r xs sc bx lx ls h =
 load_counts : (n : ℕ) (held w : List ℕ) → length w ≡ 512 → Bytes w → load_formula device_t w held ≡ n → LoadCounts n held w
 load_counts n held w lw bytes f xs sc bx lx ls h =
     let start = starts xs w sc bx lx lw ls bytes in
-    let e = mission.ends-well false (job_of (Load true) device_t fresh_state normal 1) xs w sc start in (
+    let e = mission.ends_well_lem false (job_of (Load true) device_t fresh_state normal 1) xs w sc start in (
       ap (λ (r : Ran). r.count) e ∙ ap (λ (ys : List ℕ). load_formula device_t w ys) (held_there xs w held lw h) ∙ f,
       ap (λ (r : Ran). r.end) e,
       mission.scratch_wanted false (job_of (Load true) device_t fresh_state normal 1) xs w sc start,

@@ -92,7 +92,8 @@ spot b x = same 16 b ++ (x ∷ same 16367 b)
 -- 1: 5AH programmed over A5H leaves 00H, and the status is 80H (R-card-1)
 abbrev pub card1 : Bool
 card1 =
-    shows (world_after device_t (fresh (spot 255 0xA5)) (write normal 16 0x40 ∷ write normal 16 0x5A ∷ read normal 16 ∷ read normal 16 ∷ []))
+    shows (world_after device_t (fresh (spot 255 0xA5)) (write normal 16 0x40 ∷ write normal 16 0x5A ∷ read normal 16
+    ∷ read normal 16 ∷ []))
     0x80 (spot 255 0)
 
 -- 2: FFH programmed over 3CH, on every device with P = m + 1, at every address outside the boot block: m reads give 00H, busy, the

@@ -1,5 +1,6 @@
 -- The parts we load, each by a short description, and all that follows from it.
-use Rattle.std.specs.Prelude.{Bool, true, false, not, ◌&&◌, ◌||◌, List, [], ◌∷◌, ℕ, ◌+◌, ◌-◌, ◌/◌, ◌%◌, ◌≤◌, ◌<◌, eqb, ltb, leb, if◌then◌else◌}
+use Rattle.std.specs.Prelude.{Bool, true, false, not, ◌&&◌, ◌||◌, List, [], ◌∷◌, ℕ, ◌+◌, ◌-◌, ◌/◌, ◌%◌, ◌≤◌, ◌<◌, eqb, ltb, leb}
+use Rattle.std.specs.Prelude.{if◌then◌else◌}
 use Rattle.device.specs.Blocks.{units_of_all, length_at, offset_at, holder}
 use Rattle.device.specs.declared.Part.{Part}
 use Rattle.device.specs.declared.Device.{Device}
@@ -125,7 +126,8 @@ last_of p k = start_of p k + length_of p k - 1
 abbrev pub table_row : ℕ → List ℕ
 table_row n =
     let p : Part = record { number = n; word = false } in
-    start_of p 0 ∷ last_of p 0 ∷ start_of p 1 ∷ last_of p 1 ∷ start_of p 2 ∷ last_of p 2 ∷ start_of p 3 ∷ last_of p 3 ∷ size_of p ∷ code_of p ∷ []
+    start_of p 0 ∷ last_of p 0 ∷ start_of p 1 ∷ last_of p 1 ∷ start_of p 2 ∷ last_of p 2 ∷ start_of p 3 ∷ last_of p 3 ∷ size_of p
+    ∷ code_of p ∷ []
 
 -- where block k lies: its first address and its length; 0 and 0 where there is none
 abbrev pub lies_at : Part → ℕ → List ℕ → List ℕ

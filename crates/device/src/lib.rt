@@ -2,7 +2,8 @@
 #![tactic(auto)]
 
 ghost use Rattle.std.specs.Prelude.{◌≡◌, ◌-◌};
-ghost use Rattle.device.specs.Parts.{four_blocks, more_blocks, row_of, in_words, shape_of, is_large, size_in, length_in, offset_in, holder_in};
+ghost use Rattle.device.specs.Parts.{four_blocks, more_blocks, row_of, in_words, shape_of, is_large, size_in, length_in, offset_in};
+ghost use Rattle.device.specs.Parts.{holder_in};
 ghost use Rattle.device.specs.Parts.{mirrored, start_in, block_in, unknown_part, unknown_device, size_of, length_of, start_of, block_of};
 ghost use Rattle.device.specs.Parts.{code_of};
 ghost use Rattle.device.specs.Inner.{span_in, span_of};

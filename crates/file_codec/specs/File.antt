@@ -1,5 +1,6 @@
 -- The load file: what the writer writes, how the reader judges a file, and what each answers.
-use Rattle.std.specs.Prelude.{List, [], ◌∷◌, ◌++◌, Bool, not, ◌||◌, ℕ, zero, suc, ◌+◌, ◌*◌, ◌/◌, ◌%◌, get_or, take, drop, length, eqb, ltb, if◌then◌else◌}
+use Rattle.std.specs.Prelude.{List, [], ◌∷◌, ◌++◌, Bool, not, ◌||◌, ℕ, zero, suc, ◌+◌, ◌*◌, ◌/◌, ◌%◌, get_or, take, drop, length, eqb}
+use Rattle.std.specs.Prelude.{ltb, if◌then◌else◌}
 use Rattle.common.specs.Numbers.{Row, row, given}
 use Rattle.file_block.specs.Block.{is_letter, block_rows, used_of}
 use Rattle.file_codec.specs.Layout.{block_written}

@@ -1,5 +1,6 @@
 -- What is said of a load into an image of a part: the words of the call, the run itself, and its end in words.
-use Rattle.std.specs.Prelude.{Bool, false, not, ◌||◌, true, List, [], ◌++◌, ℕ, ◌+◌, ◌-◌, ◌*◌, ◌/◌, min, eqb, ltb, length, get_or, take, drop, if◌then◌else◌}
+use Rattle.std.specs.Prelude.{Bool, false, not, ◌||◌, true, List, [], ◌++◌, ℕ, ◌+◌, ◌-◌, ◌*◌, ◌/◌, min, eqb, ltb, length, get_or, take}
+use Rattle.std.specs.Prelude.{drop, if◌then◌else◌}
 use Rattle.text.specs.Digits.{spelled, decimal_of}
 use Rattle.text.specs.Writing.{bytes, behind}
 use Rattle.trace_lines.specs.Lines.{four_hex}
@@ -61,7 +62,8 @@ unit_text word = if word then bytes ", words programmed " else bytes ", bytes pr
 -- the line of a good load: its cycles, the erases begun, the units programmed
 abbrev pub done_text : Bool → ℕ → ℕ → ℕ → List ℕ
 done_text word cycles erases programs =
-    (((((bytes "cycles " ++ number_text cycles) ++ bytes ", erases begun ") ++ decimal_of erases) ++ unit_text word) ++ number_text programs)
+    (((((bytes "cycles " ++ number_text cycles) ++ bytes ", erases begun ") ++ decimal_of erases) ++ unit_text word)
+    ++ number_text programs)
     ++ bytes "\n"
 
 -- .. of a run of block k

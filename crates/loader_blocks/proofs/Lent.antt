@@ -14,7 +14,7 @@ use Rattle.units.proofs.Widths.{units_length, few_law, no_spare}
 use Rattle.loader_walk.specs.Walks.{rises_in, diff_from}
 use Rattle.loader_blocks.specs.declared.Done.{Done}
 use Rattle.loader_blocks.specs.declared.Found.{Found}
-use Rattle.loader_blocks.specs.Blocks.{alike, work_done, read_to, block_done, block_left, room_left, block_found, block_read, block_met, block_seen}
+use Rattle.loader_blocks.specs.Blocks.{alike, work_done, read_to, block_done, block_left, room_left, block_found, block_read, block_met, block_seen, block_rises}
 
 -- and back
 pub alike_if : (word : Bool) (h w s : ℕ) → h ≡ w → s ≡ w → w ≤ 16777216 → torn word w ≡ false → alike word h w s ≡ true
@@ -129,3 +129,13 @@ module _ (word : Bool) (h w s : List ℕ) where
     pub none_seen : units word s ≡ block_seen word h w s
     unfolding block_seen
     none_seen = sym (if_false b (overwritten (read_to (units word w) (units word h)) (units word h) (units word s)) (units word s) e)
+
+-- whether a bit must rise
+module _ (word : Bool) (h w : List ℕ) where
+  pub rises_is : alike word (length h) (length w) (length w) ≡ true → block_rises word h w ≡ rises_in (units word w) (units word h)
+  unfolding block_rises
+  rises_is e = if_true (alike word (length h) (length w) (length w)) (rises_in (units word w) (units word h)) false e
+
+  pub none_rises : alike word (length h) (length w) (length w) ≡ false → block_rises word h w ≡ false
+  unfolding block_rises
+  none_rises e = if_false (alike word (length h) (length w) (length w)) (rises_in (units word w) (units word h)) false e

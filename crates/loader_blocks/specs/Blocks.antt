@@ -1,5 +1,6 @@
 -- What the stages of a load do to a block and to scratch, and what they cost in cycles. Lists are of units but where bytes are said.
-use Rattle.std.specs.Prelude.{◌≡◌, Bool, false, not, ◌&&◌, List, ℕ, zero, suc, ◌+◌, ◌≤◌, ◌<◌, length, get_or, set, replicate, eqb, ltb, leb, if◌then◌else◌}
+use Rattle.std.specs.Prelude.{◌≡◌, Bool, false, not, ◌&&◌, List, ℕ, zero, suc, ◌+◌, ◌≤◌, ◌<◌, length, get_or, set, replicate, eqb, ltb}
+use Rattle.std.specs.Prelude.{leb, if◌then◌else◌}
 use Rattle.std.specs.Int.Bits.{bit_and}
 use Rattle.common.specs.Lists.{overwritten}
 use Rattle.units.specs.Units.{units, torn, top}
@@ -80,3 +81,7 @@ unfoldable pub block_seen : Bool → List ℕ → List ℕ → List ℕ → List
 block_seen word h w s =
     if alike word (length h) (length w) (length s) then overwritten (read_to (units word w) (units word h)) (units word h) (units word s)
     else units word s
+
+-- whether a bit of a block must rise, with no scratch beside it
+unfoldable pub block_rises : Bool → List ℕ → List ℕ → Bool
+block_rises word h w = if alike word (length h) (length w) (length w) then rises_in (units word w) (units word h) else false

@@ -8,7 +8,7 @@ ghost use Rattle.common.specs.Lists.{overwritten};
 ghost use Rattle.units.specs.Units.{units, spare, pairs, torn};
 ghost use Rattle.loader_walk.specs.Walks.{rises_in, diff_from};
 ghost use Rattle.loader_blocks.specs.Blocks.{alike, costs, Falling, Workable, work_done, read_to, block_done, block_left, room_left};
-ghost use Rattle.loader_blocks.specs.Blocks.{block_found, block_read, block_met, block_seen};
+ghost use Rattle.loader_blocks.specs.Blocks.{block_found, block_read, block_met, block_seen, block_rises};
 
 use units::WordAddress;
 
@@ -342,4 +342,14 @@ pub fn look_at_block(word: bool, held: &[u8], wanted: &[u8], scratch: &mut [u8])
         differs: false,
         rises: false,
     }
+}
+
+// Whether a bit of a block must rise, asked without scratch. No where the two are not alike.
+pub fn must_rise(word: bool, held: &[u8], wanted: &[u8]) -> bool
+    ensures { result ≡ block_rises word held.now wanted.now }
+{
+    if are_alike(word, held.len(), wanted.len(), wanted.len()) {
+        return rises(wanted, held);
+    }
+    false
 }

@@ -45,11 +45,11 @@ module _ (d : Device) (p : Pins) (u : Up d p) (was : State) where
   module _ (k : ℕ) (r : Ready d p k) where
     still_proper : (m : Mode) (left a : ℕ) → is_identifier m ≡ false → 0 < left → left ≤ d.erase → a < size_of d.part → Proper d (st was m 0xC0 Suspended left a)
     unfolding bad_status bad_left bad_address
-    still_proper m left a i z l h = record { mode = i; status = refl; left = answers.in-range d p u was k r d.erase left z l; address = lt-leb (size_of d.part) a h }
+    still_proper m left a i z l h = record { mode = i; status = refl; left = answers.in_range_lem d p u was k r d.erase left z l; address = lt-leb (size_of d.part) a h }
 
     runs_proper : (left a : ℕ) → 0 < left → left ≤ d.erase → a < size_of d.part → Proper d (st was Status 0 Erasing left a)
     unfolding bad_status bad_left bad_address
-    runs_proper left a z l h = record { mode = refl; status = refl; left = answers.in-range d p u was k r d.erase left z l; address = lt-leb (size_of d.part) a h }
+    runs_proper left a z l h = record { mode = refl; status = refl; left = answers.in_range_lem d p u was k r d.erase left z l; address = lt-leb (size_of d.part) a h }
 
     stands : (m : Mode) (left a : ℕ) → settle_of d.part (st was m 0xC0 Suspended left a) p ≡ settled_as (st was m 0xC0 Suspended left a) Nothing
     unfolding settle_of

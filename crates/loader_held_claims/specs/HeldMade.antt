@@ -1,5 +1,6 @@
 -- What such a load begins, the cycles that it makes, and what an interruption costs and reads.
-use Rattle.std.specs.Prelude.{◌≡◌, Bool, true, false, ◌&&◌, ◌||◌, List, [], ◌∷◌, ℕ, zero, suc, ◌+◌, ◌-◌, ◌<◌, length, get_or, eqb, ltb, if◌then◌else◌}
+use Rattle.std.specs.Prelude.{◌≡◌, Bool, true, false, ◌&&◌, ◌||◌, List, [], ◌∷◌, ℕ, zero, suc, ◌+◌, ◌-◌, ◌<◌, length, get_or, eqb, ltb}
+use Rattle.std.specs.Prelude.{if◌then◌else◌}
 use Rattle.common.specs.Lists.{overwritten}
 use Rattle.device.specs.declared.Device.{Device}
 use Rattle.device.specs.Parts.{size_of, block_of}
@@ -84,7 +85,8 @@ held_then d p a bs cs =
 -- an interruption in the place of the erase's last poll: the erase is found finished and not resumed
 abbrev pub found_then : Pins → ℕ → List ℕ → List Cycle → List Cycle
 found_then p a bs cs =
-    bus_cycle p Write a 0xB0 ∷ bus_cycle p Write a 0x70 ∷ bus_cycle p Read a 0 ∷ bus_cycle p Write a 0xFF ∷ fetches_then p (length bs) bs 0 cs
+    bus_cycle p Write a 0xB0 ∷ bus_cycle p Write a 0x70 ∷ bus_cycle p Read a 0 ∷ bus_cycle p Write a 0xFF
+    ∷ fetches_then p (length bs) bs 0 cs
 
 -- no poll of the erase is to come after this one
 abbrev pub is_last : ℕ → Bool

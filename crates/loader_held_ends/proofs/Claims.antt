@@ -56,7 +56,7 @@ lent_demand_3 = lending.lent_held_demand_3
 
 -- Such lists there are: for every block of the eight devices, in byte mode and in word mode, an address that no test refuses (computed).
 pub lists_exist : all_lists ≡ true
-lists_exist = readings.all-lists
+lists_exist = readings.all_lists_lem
 
 -- Every end, whatever VPP and RP#: such a load returns and leaves what the old one does (0, 21, 23, 24), with the cycles added that
 -- specs/HeldEnds of loader_held_claims says, begins what the old one begins, and makes the cycles listed there; the model refuses none of

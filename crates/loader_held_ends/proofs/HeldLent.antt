@@ -190,7 +190,7 @@ module _ (verify : Bool) (j : Job) (array wanted scratch ps bs room : List ℕ) 
         block = rw B.bytes without.block;
         before = λ x h. rw B.bytes (without.before x h);
         behind = λ x h. rw B.bytes (without.behind x h);
-        array_left_lem = B.bytes ∙ without.array-left;
+        array_left = B.bytes ∙ without.array_left;
         scratch_left = B.scratch_left ∙ without.scratch_left;
         by_formula = ap (λ (r : HeldLeft). r.ran.count) made_so ∙ D.by_formula;
         at_most = subst (λ (r : HeldLeft). r.ran.count ≤ formula_by verify j.device wanted_units Held + interruptions ps 0 j.device.erase * (j.device.suspend + length bs + 4)) (sym made_so) D.at_most;

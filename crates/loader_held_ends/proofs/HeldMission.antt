@@ -152,7 +152,7 @@ module _ (verify : Bool) (j : Job) (xs w sc bs ps room : List ℕ) (start : Held
         well = ap (λ (r : Ran). r.end) ran_is ∙ o.well;
         block = block_holds;
         others = λ x h. ap (λ (z : List ℕ). get_or z x 0) same_bytes ∙ o.others x h;
-        array_left_lem = same_bytes ∙ o.array-left;
+        array_left = same_bytes ∙ o.array_left;
         begins = H.begun ∙ o.begins;
         own_accepted = taken.0;
         own_brings = record { whole = taken.1; there = ap (λ (v : World). held_by j.device.part j.block v.bytes) leads ∙ block_holds };

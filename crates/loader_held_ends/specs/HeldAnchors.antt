@@ -23,7 +23,8 @@ large_lists word = ((lists_up_to 5 word 4 && lists_up_to 6 word 4) && lists_up_t
 -- .. of every part, and of devices 5 to 8 in bytes and in words
 abbrev pub all_lists : Bool
 all_lists =
-    ((((lists_up_to 1 false 3 && lists_up_to 2 false 3) && lists_up_to 3 false 3) && lists_up_to 4 false 3) && large_lists false) && large_lists true
+    ((((lists_up_to 1 false 3 && lists_up_to 2 false 3) && lists_up_to 3 false 3) && lists_up_to 4 false 3) && large_lists false)
+    && large_lists true
 
 -- what interruptions add on bench T with E 3, by S, the addresses and the polls told
 abbrev pub figures : ℕ → List ℕ → List ℕ → ℕ

@@ -74,7 +74,7 @@ module _ (verify : Bool) (j : Job) (array wanted scratch ps bs room : List ℕ) 
     -- every other byte is as before
     pub before : (x : ℕ) → x < from → get_or held.bytes x 0 ≡ get_or array x 0
     pub behind : (x : ℕ) → from + length wanted ≤ x → get_or held.bytes x 0 ≡ get_or array x 0
-    pub array_left_lem : held.bytes ≡ overlaid array from wanted
+    pub array_left : held.bytes ≡ overlaid array from wanted
     -- scratch ends as wanted
     pub scratch_left : held.scratch ≡ wanted
     -- the count: the formula's, and what the interruptions add, at most S + k + 4 for each

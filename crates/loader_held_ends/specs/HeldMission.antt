@@ -71,7 +71,7 @@ module _ (verify : Bool) (j : Job) (xs w sc bs ps room : List ℕ) where
     -- every other unit is as before
     pub others : (x : ℕ) → (block_of j.device.part x ≡ j.block → ⊥) → get_or held_end.bytes x 0 ≡ get_or xs x 0
     -- .. so the array is the old one with the wanted units laid over the block
-    pub array_left_lem : held_end.bytes ≡ overlaid xs (start_of j.device.part j.block) w
+    pub array_left : held_end.bytes ≡ overlaid xs (start_of j.device.part j.block) w
     -- one erase is begun if some bit must rise, otherwise none; each unit that then differs is programmed once and no other
     pub begins : held_begins
         ≡ operations_of j.device.part j.block (start_of j.device.part j.block) w (held_by j.device.part j.block xs)

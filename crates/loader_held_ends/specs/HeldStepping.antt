@@ -45,7 +45,8 @@ module _ (verify : Bool) (j : Job) (xs w sc bs ps room : List ℕ) (size : ℕ) 
     pub lasts : (i : ℕ) → (stepped_over i ≡ false) ↔ (i < (held_ran last).count)
     -- before its end the model takes the cycle that is out, answers a read by data, and leaves the run's next state and array
     pub takes : (i : ℕ) → stepped_over i ≡ false → is_refused (held_answer j.device w bs (stepped_at i)).seen ≡ false
-    pub answers : (i : ℕ) → stepped_over i ≡ false → (out_of w bs (stepped_at i)).kind ≡ Read → (held_answer j.device w bs (stepped_at i)).seen
+    pub answers : (i : ℕ) → stepped_over i ≡ false → (out_of w bs (stepped_at i)).kind ≡ Read
+        → (held_answer j.device w bs (stepped_at i)).seen
         ≡ Data (number_in (held_answer j.device w bs (stepped_at i)).seen)
     pub makes : (i : ℕ) → stepped_over i ≡ false → ((held_answer j.device w bs (stepped_at i)).state ≡ (stepped_at (suc i)).state)
         × (held_array j.device w bs (stepped_at i) ≡ (stepped_at (suc i)).bytes)

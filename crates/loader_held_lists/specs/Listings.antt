@@ -37,7 +37,8 @@ room_number word n room = given (room_rows word n room)
 
 -- the tests of the lists, in their order, each over the whole list before the next (R-held-3)
 abbrev pub held_rows : Part → ℕ → List ℕ → ℕ → List Row
-held_rows part k bs room = row 5 (some_of (past_array part) bs) ∷ row 45 (some_of (in_loaded part k) bs) ∷ room_rows part.word (length bs) room
+held_rows part k bs room =
+    row 5 (some_of (past_array part) bs) ∷ row 45 (some_of (in_loaded part k) bs) ∷ room_rows part.word (length bs) room
 
 -- the first refusal of the lists, 0 where nothing refuses
 unfoldable pub held_number : Part → ℕ → List ℕ → ℕ → ℕ

@@ -122,7 +122,7 @@ module _ (j : Job) (array wanted scratch ps bs room : List ℕ) where
       let g : end ≡ held_at j array wanted scratch ps bs room left.ran.count = h.reached ∙ ap (λ (o : ℕ). held_after o j.device w bs ps start) (sym n) in
       record {
         returned = ap (λ (r : HeldLeft). r.ran) m ∙ ap held_ran g;
-        array_left_lem = ap (λ (r : HeldLeft). r.bytes) m ∙ ap (λ (x : HeldConfig). back j.device.part.word x.bytes) g;
+        array_left = ap (λ (r : HeldLeft). r.bytes) m ∙ ap (λ (x : HeldConfig). back j.device.part.word x.bytes) g;
         scratch_left = ap (λ (r : HeldLeft). r.scratch) m ∙ ap (λ (x : HeldConfig). back j.device.part.word x.scratch) g;
         room_left = ap (λ (r : HeldLeft). r.room) m ∙ ap (λ (x : HeldConfig). back j.device.part.word x.room ++ spare j.device.part.word room) g;
         ended = subst (λ (x : HeldConfig). is_ended x.loader.stage ≡ true) g h.ended;
@@ -136,7 +136,7 @@ module _ (j : Job) (array wanted scratch ps bs room : List ℕ) where
       let at : ℕ → HeldConfig = held_at j array wanted scratch ps bs room in
       let n : r.count ≡ t.count = go (ltb r.count t.count) refl (ltb t.count r.count) refl in (
         f.returned ∙ ap (λ (o : ℕ). held_ran (at o)) n ∙ sym g.returned,
-        f.array-left ∙ ap (λ (o : ℕ). back j.device.part.word (at o).bytes) n ∙ sym g.array-left,
+        f.array_left ∙ ap (λ (o : ℕ). back j.device.part.word (at o).bytes) n ∙ sym g.array_left,
         f.scratch_left ∙ ap (λ (o : ℕ). back j.device.part.word (at o).scratch) n ∙ sym g.scratch_left,
         f.room_left ∙ ap (λ (o : ℕ). back j.device.part.word (at o).room ++ spare j.device.part.word room) n ∙ sym g.room_left,
       )

@@ -23,7 +23,7 @@ held_at j array wanted scratch ps bs room i =
 -- r, the array, scratch and the room are what as many cycles return and leave as r counts; the load has ended then, and not before
 pub record HeldPromise (j : Job) (array wanted scratch ps bs room : List ℕ) (r : Ran) (left leftScratch leftRoom : List ℕ) : Type 0 where
   pub returned : r ≡ held_ran (held_at j array wanted scratch ps bs room r.count)
-  pub array_left_lem : left ≡ back j.device.part.word (held_at j array wanted scratch ps bs room r.count).bytes
+  pub array_left : left ≡ back j.device.part.word (held_at j array wanted scratch ps bs room r.count).bytes
   pub scratch_left : leftScratch ≡ back j.device.part.word (held_at j array wanted scratch ps bs room r.count).scratch
   pub room_left : leftRoom
       ≡ back j.device.part.word (held_at j array wanted scratch ps bs room r.count).room ++ spare j.device.part.word room

@@ -8,6 +8,8 @@ use Rattle.loader_run.specs.declared.Ran.{Ran}
 use Rattle.loader_run.specs.Runs.{lent_run}
 use Rattle.loader_run.specs.declared.Job.{Job}
 use Rattle.device.specs.declared.Part.{Part}
+use Rattle.device.specs.Parts.{start_of}
+use Rattle.units.specs.Address.{byte_of}
 use Rattle.model_types.specs.declared.Pins.{Pins}
 use Rattle.loader_quick.specs.declared.Made.{Made}
 use Rattle.loader_quick.specs.Quick.{stuck_by, tested_left}
@@ -24,6 +26,9 @@ run_quick_scratch_unique j xs w sc = only (lent_run j xs w sc).scratch
 
 pub is_stuck_unique : (part : Part) (p : Pins) (k : ℕ) → Unique (λ (r : Bool). r ≡ stuck_by part p k)
 is_stuck_unique part p k = only (stuck_by part p k)
+
+pub first_byte_unique : (part : Part) (k : ℕ) → Unique (λ (r : ℕ). r ≡ byte_of part.word (start_of part k))
+first_byte_unique part k = only (byte_of part.word (start_of part k))
 
 pub run_tested_unique : (j : Job) (xs w sc : List ℕ) → Unique (λ (r : Made). r ≡ (tested_left j xs w sc).made)
 run_tested_unique j xs w sc = only (tested_left j xs w sc).made

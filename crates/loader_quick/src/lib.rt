@@ -14,7 +14,8 @@ ghost use Rattle.loader_run_claims.specs.Ends.{shut, erased_from};
 ghost use Rattle.loader_verify_claims.specs.Verified.{units_read, verify_ran};
 ghost use Rattle.loader_quick.specs.Quick.{Placed, held_units, stuck_by, fault_end, fault_bits, looked_at, tried_of, mode_by, finished_of};
 ghost use Rattle.loader_quick.specs.Quick.{units_of, load_array, load_scratch, verdict_of, refused_ran, Timed};
-ghost use Rattle.loader_quick.specs.Quick.{must_rise, made_of, load_made, stages_made, stages_array, stages_scratch, is_placed, tested_left};
+ghost use Rattle.loader_quick.specs.Quick.{must_rise, made_of, load_made, stages_made, stages_array, stages_scratch, is_placed};
+ghost use Rattle.loader_quick.specs.Quick.{tested_left};
 
 use device::Part;
 use loader::Work;
@@ -83,7 +84,7 @@ fn fault_bits(part: Part, p: Pins, erase: bool) -> u8
 }
 
 // Where a block's bytes begin.
-fn first_byte(part: Part, block: u8) -> usize
+pub fn first_byte(part: Part, block: u8) -> usize
     ensures { result ≡ byte_of part.word (start_of part block) }
 {
     let word = part.word;

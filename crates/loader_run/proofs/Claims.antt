@@ -49,7 +49,7 @@ always_ends = ending.always_ends
 -- end, the address, the state, the array and scratch are what those cycles leave.
 pub first_end : (j : Job) (xs w sc : List ℕ) → NoRow (run_rows j (length xs) (length w) (length sc))
     → Promise j xs w sc (run_left j xs w sc).ran (run_left j xs w sc).bytes (run_left j xs w sc).scratch
-first_end = ending.run-first
+first_end = ending.run_first_lem
 
 -- There is one such number: an early stop or an invented count does not meet it.
 pub first_only : (d : Device) (w : List ℕ) (c e : Config) → FirstEnd d w c e → (k : ℕ) → is_ended (after k d w c).loader.stage ≡ true

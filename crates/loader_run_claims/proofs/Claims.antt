@@ -50,7 +50,7 @@ lent_demand_3 = lending.lent_demand_3 true
 -- Such starts there are of every block of the eight devices, in byte mode and in word mode, in either band of VPP, with RP# at V_HH and
 -- with WP# high: one computed test.
 pub starts_exist : all_start ≡ true
-starts_exist = anchors.all_start
+starts_exist = anchors.all_start_lem
 
 -- Counts pass 32 bits: a block of 65,536 units or more that holds ones, to be zeros, each programmed in 65,535 cycles.
 pub passes_32_bits : (d : Device) (n : ℕ) → d.program ≡ 65535 → 65536 ≤ n → 4294967296 < formula d (replicate n 0) (replicate n (ones d.part))
@@ -64,7 +64,7 @@ taken_exactly = starts.taken_exactly
 -- The clauses one by one. All that the run returns: the load ends well, and the count is 2n + 3 + e(2 + E) + p(2 + P).
 pub ends_well_lem : (j : Job) (xs w sc : List ℕ) → Start j xs w sc
     → (run_left (doing (Load true) j) xs w sc).ran ≡ record { count = formula j.device w (held_in (start_of j.device.part j.block) (length w) xs); end = 0; address = 0; state = is_at_rest (erased_from (rises_in w (held_in (start_of j.device.part j.block) (length w) xs)) j.block j.state) Array 0x80 }
-ends_well_lem = mission.ends-well true
+ends_well_lem = mission.ends_well_lem true
 
 -- Wear: a load that has no bit to raise leaves every count of erases, with the verify after it or alone.
 pub no_rise_no_wear : (verify : Bool) (j : Job) (xs w sc : List ℕ) → Start j xs w sc

@@ -176,7 +176,7 @@ module _ (verify : Bool) (d : Device) (p : Pins) (k : ℕ) (u : Up d p) (was : S
         subst (λ (l : Loader). Reach d w (conf l (is_at_rest was Array 128) X ys cnt) (conf (rec (Ended n) i 0) (is_at_rest was Status x) X ys (cnt + 3)) [] (program_tried p (a + i) v))
         (sym (if_false (rises_in w ys) _ _ t ∙ if_true (ltb i (length w)) _ _ (lt-ltb i (length w) h)))
         (failing ProgramAsking ProgramSending ProgramWaiting refl refl refl i x n (st was Status 128 DataAwaited 0 0) (cyc p Write (a + i) 0x40) (cyc p Write (a + i) v) (cyc p Read (a + i) 0)
-        (phases.answered_here verify d p k u was w lw some ProgramAsking i 0 Write 0x40 (is_at_rest was Array 128) Quiet (st was Status 128 DataAwaited 0 0) Nothing h refl (answers.asks-program d p u was Array 128 (a + i) refl inside) refl)
+        (phases.answered_here verify d p k u was w lw some ProgramAsking i 0 Write 0x40 (is_at_rest was Array 128) Quiet (st was Status 128 DataAwaited 0 0) Nothing h refl (answers.asks_program_lem d p u was Array 128 (a + i) refl inside) refl)
         (phases.answered_here verify d p k u was w lw some ProgramSending i 0 Write v (st was Status 128 DataAwaited 0 0) Quiet (is_at_rest was Status x) Nothing h refl
         (answers.data_fails d p u was k low (a + i) v stuck inside (phases.block_at verify d p k u was w lw some i h) ∙ ap (λ (y : ℕ). decided_as Quiet (is_at_rest was Status y) Nothing) q) refl)
         (phases.answered_here verify d p k u was w lw some ProgramWaiting i 0 Read 0 (is_at_rest was Status x) (Gives x) (is_at_rest was Status x) Nothing h refl (answers.reads_status d p u was x (a + i) f inside) refl)

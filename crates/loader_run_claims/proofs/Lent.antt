@@ -120,7 +120,7 @@ module _ (verify : Bool) (j : Job) (array wanted scratch : List ℕ) (t : LentSt
       sym (ap (back w) laid_units) ∙ back_units w (overlaid array from wanted) (ap (λ (m : ℕ). torn w m) n ∙ whole_array) (bytes_overlaid array from wanted t.array_bytes t.wanted_bytes)
 
   left : (lent_run (doing (Load verify) j) array wanted scratch).bytes ≡ overlaid array from wanted
-  left = ap (λ (r : RunLeft). r.bytes) made ∙ ap (back w) demand.array-left ∙ laid_back
+  left = ap (λ (r : RunLeft). r.bytes) made ∙ ap (back w) demand.array_left ∙ laid_back
 
   pub lent_demand_3 : LentDemand3 verify j array wanted scratch
   lent_demand_3 =
@@ -133,7 +133,7 @@ module _ (verify : Bool) (j : Job) (array wanted scratch : List ℕ) (t : LentSt
             ∙ take_at wanted (drop (length wanted) (drop from array)) (length wanted) refl;
         before = λ x h. rw left (overlaid_before array from wanted inside_bytes x h);
         behind = λ x h. rw left (subst (λ (y : ℕ). get_or (overlaid array from wanted) y 0 ≡ get_or array y 0) (let q : from + (length wanted + (x - from - length wanted)) ≡ x = omega arith in q) (overlaid_after array from wanted inside_bytes (x - from - length wanted)));
-        array_left_lem = left;
+        array_left = left;
         scratch_left = ap (λ (r : RunLeft). r.scratch) made ∙ ap (back w) demand.scratch_left ∙ back_units w wanted whole_wanted t.wanted_bytes;
         returned = ap (λ (r : RunLeft). r.ran) made ∙ ends_well_lem verify j X W (units w scratch) start ∙ ap (λ (n : ℕ). well_at (held_in a n X)) lw;
         by_formula = ap (λ (r : RunLeft). r.ran.count) made ∙ demand.by_formula;

@@ -171,8 +171,8 @@ module _ (verify : Bool) (j : Job) (xs w sc : List ℕ) (start : Start j xs w sc
   ends_well_lem = ran_left verify j xs w sc start.base _ _ _ loaded
 
   -- the array is as before with the wanted bytes over the block, and scratch holds them too
-  pub array_left_lem : (run_left (doing (Load verify) j) xs w sc).bytes ≡ overlaid xs a w
-  array_left_lem = bytes_left verify j xs w sc start.base _ _ _ loaded
+  pub array_left : (run_left (doing (Load verify) j) xs w sc).bytes ≡ overlaid xs a w
+  array_left = bytes_left verify j xs w sc start.base _ _ _ loaded
 
   pub scratch_wanted : (run_left (doing (Load verify) j) xs w sc).scratch ≡ w
   scratch_wanted = scratch_left verify j xs w sc start.base _ _ _ loaded
@@ -183,15 +183,15 @@ module _ (verify : Bool) (j : Job) (xs w sc : List ℕ) (start : Start j xs w sc
   -- the block holds the wanted bytes
   pub block_holds : held_in a (length w) (run_left (doing (Load verify) j) xs w sc).bytes ≡ w
   block_holds =
-      ap (λ (z : List ℕ). held_in a (length w) z) array_left_lem
+      ap (λ (z : List ℕ). held_in a (length w) z) array_left
       ∙ ap (λ (z : List ℕ). take (length w) z) (drop_at (take a xs) _ a (length-take-le a xs (let h = inside in omega arith)))
       ∙ take_at w (drop (length w) (drop a xs)) (length w) refl
 
   -- every other byte is as before
   pub others_stay : (x : ℕ) → (x < a → get_or (run_left (doing (Load verify) j) xs w sc).bytes x 0 ≡ get_or xs x 0) × (a + length w ≤ x → get_or (run_left (doing (Load verify) j) xs w sc).bytes x 0 ≡ get_or xs x 0)
   others_stay x = (
-    λ h. rw array_left_lem (overlaid_before xs a w inside x h),
-    λ h. rw array_left_lem (subst (λ (y : ℕ). get_or (overlaid xs a w) y 0 ≡ get_or xs y 0) (let q : a + (length w + (x - a - length w)) ≡ x = omega arith in q) (overlaid_after xs a w inside (x - a - length w))),
+    λ h. rw array_left (overlaid_before xs a w inside x h),
+    λ h. rw array_left (subst (λ (y : ℕ). get_or (overlaid xs a w) y 0 ≡ get_or xs y 0) (let q : a + (length w + (x - a - length w)) ≡ x = omega arith in q) (overlaid_after xs a w inside (x - a - length w))),
   )
 
   -- it erases once if some bit must rise, otherwise never; it programs each byte that then differs once and no other
@@ -243,7 +243,7 @@ module _ (verify : Bool) (j : Job) (xs w sc : List ℕ) (start : Start j xs w sc
   own_world =
       leads j.device w (bound (length w)) (beginning (doing (Load verify) j) xs sc)
       ∙ ap device_in loaded.end
-      ∙ sym (λ i. world_of (ends_well_lem i).state (array_left_lem i))
+      ∙ sym (λ i. world_of (ends_well_lem i).state (array_left i))
 
   own_holds : Brings j.device (world_of j.state xs) j.block w own
   own_holds =
@@ -293,7 +293,7 @@ module _ (verify : Bool) (j : Job) (xs w sc : List ℕ) (start : Start j xs w sc
         well = ap (λ (r : Ran). r.end) ends_well_lem;
         block = sym (held_is (run_left (doing (Load verify) j) xs w sc).bytes) ∙ block_holds;
         others = others_are;
-        array_left_lem = array_left_lem;
+        array_left = array_left;
         begins = begins_just ∙ ap (λ (ys : List ℕ). operations_of j.device.part j.block a w ys) (held_is xs);
         own_accepted = (smooth j.device w (bound (length w)) (beginning (doing (Load verify) j) xs sc) none_refused).0;
         own_brings = own_holds;

@@ -403,7 +403,7 @@ module _ (verify : Bool) (d : Device) (p : Pins) (k : ℕ) (u : Up d p) (was : S
         asked = st sx Status 128 DataAwaited 0 0
 
         answered1 : Answered d w (rec ProgramAsking i 0) (is_at_rest sx m 128) (cyc p Write (a + i) 0x40) Quiet asked Nothing
-        answered1 = answered_here ProgramAsking i 0 Write 0x40 (is_at_rest sx m 128) Quiet asked Nothing h refl (answers.asks-program d p u sx m 128 (a + i) refl (inside i h)) refl
+        answered1 = answered_here ProgramAsking i 0 Write 0x40 (is_at_rest sx m 128) Quiet asked Nothing h refl (answers.asks_program_lem d p u sx m 128 (a + i) refl (inside i h)) refl
 
         answered2 : Answered d w (rec ProgramSending i 0) asked (cyc p Write (a + i) v) Quiet (st sx Status 0 (Programming v) d.program (a + i)) Nothing
         answered2 = answered_here ProgramSending i 0 Write v asked Quiet (st sx Status 0 (Programming v) d.program (a + i)) Nothing h refl (answers.sends d p u sx k r (a + i) v (inside i h) (block_at i h) cell-w) refl

@@ -55,7 +55,8 @@ program_tried p x b = bus_cycle p Write x 0x40 ∷ bus_cycle p Write x b ∷ bus
 -- the cycles up to such an end: the first reads, then the erase, or the program of the first byte that differs
 abbrev pub fault_cycles : Pins → ℕ → List ℕ → List ℕ → List Cycle
 fault_cycles p a w ys =
-    opening_then p a (length w) (if rises_in w ys then erase_tried p a else program_tried p (a + diff_from 0 w ys) (get_or w (diff_from 0 w ys) 0))
+    opening_then p a (length w) (if rises_in w ys then erase_tried p a
+    else program_tried p (a + diff_from 0 w ys) (get_or w (diff_from 0 w ys) 0))
 
 -- the mode that a good load leaves: read array after the first reads, read status after an operation
 abbrev pub loaded_mode : List ℕ → List ℕ → Mode

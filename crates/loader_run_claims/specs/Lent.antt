@@ -45,7 +45,7 @@ module _ (verify : Bool) (j : Job) (array wanted scratch : List ℕ) where
     pub behind : (x : ℕ) → from + length wanted ≤ x → get_or (lent_run (doing (Load verify) j) array wanted scratch).bytes x 0
         ≡ get_or array x 0
     -- .. so the array is the old one with the wanted bytes laid over the block
-    pub array_left_lem : (lent_run (doing (Load verify) j) array wanted scratch).bytes ≡ overlaid array from wanted
+    pub array_left : (lent_run (doing (Load verify) j) array wanted scratch).bytes ≡ overlaid array from wanted
     -- scratch ends as wanted
     pub scratch_left : (lent_run (doing (Load verify) j) array wanted scratch).scratch ≡ wanted
     -- all that it returns, with what the block held in units: mode read array after the verify, status 80H, and one erase more of that

@@ -99,7 +99,8 @@ programming_then d p a w ys cs = programs_then d p (length w) a 0 w (base_of d.p
 -- the cycles of a good load of a block at a that holds ys, then cs
 abbrev pub load_then : Device → Pins → ℕ → List ℕ → List ℕ → List Cycle → List Cycle
 load_then d p a w ys cs =
-    opening_then p a (length w) (if rises_in w ys then erase_then d p a (programming_then d p a w ys cs) else programming_then d p a w ys cs)
+    opening_then p a (length w) (if rises_in w ys then erase_then d p a (programming_then d p a w ys cs)
+    else programming_then d p a w ys cs)
 
 -- .. with or without the verify after it
 abbrev pub cycles_by : Bool → Device → Pins → ℕ → List ℕ → List ℕ → List Cycle

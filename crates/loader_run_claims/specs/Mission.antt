@@ -10,7 +10,8 @@ use Rattle.model_states.specs.States.{improper}
 use Rattle.loader_steps.specs.Front.{no_block}
 use Rattle.model_types.specs.Phases.{under_way}
 use Rattle.loader_run_claims.specs.Wear.{begun_at, held_by, noted_all, operations_of, formula_by}
-use Rattle.model_history.specs.History.{Bus, World, world_of, buses_of, world_after, effects_in, begun_over, accepts_all, uncut, total_of, erase_of}
+use Rattle.model_history.specs.History.{Bus, World, world_of, buses_of, world_after, effects_in, begun_over, accepts_all, uncut}
+use Rattle.model_history.specs.History.{total_of, erase_of}
 use Rattle.model_history.specs.History.{erases_begun, programs_begun}
 use Rattle.loader_run_claims.specs.Made.{cycles_at}
 use Rattle.loader.specs.declared.Work.TheVariants.{Load}
@@ -66,7 +67,7 @@ pub record Demand3 (verify : Bool) (j : Job) (xs w sc : List ℕ) : Type 0 where
   pub others : (x : ℕ) → (block_of j.device.part x ≡ j.block → ⊥) → get_or (run_left (doing (Load verify) j) xs w sc).bytes x 0
       ≡ get_or xs x 0
   -- .. so the array is the old one with the wanted units laid over the block
-  pub array_left_lem : (run_left (doing (Load verify) j) xs w sc).bytes ≡ overlaid xs (start_of j.device.part j.block) w
+  pub array_left : (run_left (doing (Load verify) j) xs w sc).bytes ≡ overlaid xs (start_of j.device.part j.block) w
   -- it erases once if some bit must rise, otherwise never; it programs each unit that then differs once and no other: on a
   -- device in word mode words are counted
   pub begins : begun_at (doing (Load verify) j) xs w sc

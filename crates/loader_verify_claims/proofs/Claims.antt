@@ -64,7 +64,7 @@ pub load_cycles : (j : Job) (xs w sc : List ℕ) → Start j xs w sc
 load_cycles = mission.cycles_listed false
 
 pub cycles_split : (d : Device) (p : Pins) (a : ℕ) (w ys : List ℕ) (cs : List Cycle) → load_then d p a w ys cs ≡ load_then d p a w ys [] ++ cs
-cycles_split = both.load-then
+cycles_split = both.load_then_lem
 
 pub count_split : (d : Device) (w ys : List ℕ) → formula d w ys ≡ load_formula d w ys + (length w + 1)
 count_split = mission.formula_load_verify

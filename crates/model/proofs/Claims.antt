@@ -164,7 +164,7 @@ begun_unawaited = lives.begun_unawaited
 
 -- The states before and after tell the same.
 pub begun_from_lem : (d : Device) (s : State) (c : Cycle) (n r : ℕ) → begun_by d s c n r ≡ begun_from d.part s (decide_of d s c n r).state
-begun_from_lem = lives.begun-from
+begun_from_lem = lives.begun_from_lem
 
 -- The law of lives, for every cycle and every weight of operations: what ended or was cut and what is pending after weighs
 -- as much as what began and what was pending before.
@@ -175,7 +175,7 @@ conserved = lives.conserved
 -- Wear: the counts after a cycle are those before it with one more where it begins an erase; nothing else moves them, no reset, no
 -- cut, no resume, no refusal.
 pub wear_after_lem : (d : Device) (s : State) (c : Cycle) (n r : ℕ) → (decide_of d s c n r).state.wear ≡ wear_after d s c n r
-wear_after_lem = worn.wear-after
+wear_after_lem = worn.wear_after_lem
 
 -- Where refusals 1 to 6 do not apply, `after_judging` gives the cycle's answer ..
 pub judged_answer : (d : Device) (s : State) (c : Cycle) (xs rs : List ℕ) → judge_of d s c (length xs) (length rs) ≡ 0 → answer_judged d s c xs rs ≡ answer_of d s c xs rs

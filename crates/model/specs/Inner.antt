@@ -39,7 +39,8 @@ array_judged d s c xs rs = done_of (decide_judged d s c).effect d.part rs xs
 
 -- the answer to it: only where they do not apply
 unfoldable pub answer_judged : Device → State → Cycle → List ℕ → List ℕ → Answer
-answer_judged d s c xs rs = record { seen = seen_of (decide_judged d s c).reply (array_judged d s c xs rs); state = (decide_judged d s c).state }
+answer_judged d s c xs rs =
+    record { seen = seen_of (decide_judged d s c).reply (array_judged d s c xs rs); state = (decide_judged d s c).state }
 
 -- what it tells: only where they do not apply
 unfoldable pub passed_told : Device → State → Cycle → List ℕ → List ℕ → ℕ × List ℕ

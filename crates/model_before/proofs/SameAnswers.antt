@@ -170,9 +170,9 @@ module _ (d : Device) (l : Leaves d.part) where
   reset : (s : State) → reset_by p s ≡ before.reset_by p s
   reset s = rw (cut s.phase s.address) refl
 
-  cut_by : (s : State) → cut_by p s ≡ before.cut_by p s
+  cut_by_lem : (s : State) → cut_by p s ≡ before.cut_by p s
   unfolding cut_by
-  cut_by s = rw (cut s.phase s.address) refl
+  cut_by_lem s = rw (cut s.phase s.address) refl
 
   counted : (s : State) → counted_off p s ≡ before.counted_off p s
   unfolding counted_off
@@ -184,7 +184,7 @@ module _ (d : Device) (l : Leaves d.part) where
 
   settle : (s : State) (q : Pins) → settle_of p s q ≡ before.settle_of p s q
   unfolding settle_of
-  settle s q = rw (low q, reset s, cut_by s, passed s) refl
+  settle s q = rw (low q, reset s, cut_by_lem s, passed s) refl
 
   -- the commands
   asks : (b : ℕ) → asks_program p b ≡ eqb b 0x40

@@ -1,6 +1,7 @@
 -- The rules as they were before devices 5 to 8, word for word: every definition that has changed since, or that stands on one that has.
 -- What is taken from elsewhere has not changed.
-use Rattle.std.specs.Prelude.{Bool, true, false, not, ◌&&◌, ◌||◌, List, [], ◌∷◌, ◌++◌, ℕ, ◌+◌, ◌-◌, length, get_or, set, take, replicate, eqb, ltb, leb, if◌then◌else◌}
+use Rattle.std.specs.Prelude.{Bool, true, false, not, ◌&&◌, ◌||◌, List, [], ◌∷◌, ◌++◌, ℕ, ◌+◌, ◌-◌, length, get_or, set, take, replicate}
+use Rattle.std.specs.Prelude.{eqb, ltb, leb, if◌then◌else◌}
 use Rattle.std.specs.Int.Bits.{bit_and, bit_or}
 use Rattle.common.specs.Numbers.{Row, row, given}
 use Rattle.common.specs.Lists.{overlaid}
@@ -30,7 +31,8 @@ use Rattle.model_types.specs.Kinds.{is_read, is_write, is_idle}
 use Rattle.model_levels.specs.Levels.{rp_low}
 use Rattle.model_types.specs.Phases.{is_busy, is_suspending, is_suspended, is_pending}
 use Rattle.model_types.specs.Status.{SR7, SR6, SR5, SR4, SR3, with_bits, without_bits, is_set}
-use Rattle.model_states.specs.States.{is_array, is_identifier, proper_mode, proper_ready, proper_held, proper_low, proper_left, proper_suspend}
+use Rattle.model_states.specs.States.{is_array, is_identifier, proper_mode, proper_ready, proper_held, proper_low, proper_left}
+use Rattle.model_states.specs.States.{proper_suspend}
 use Rattle.model_states.specs.States.{is_at_rest, in_phase, reset_of}
 use Rattle.model_commands.specs.Commands.{after_erase, while_erasing, while_suspending, while_suspended, is_refuse}
 use Rattle.model_actions.specs.Performed.{in_mode, with_status, wear_by}

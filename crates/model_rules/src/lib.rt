@@ -3,7 +3,8 @@
 
 ghost use Rattle.std.specs.Prelude.{◌≡◌};
 ghost use Rattle.model_rules.specs.Cycles.{refused_by, skips_last, code_place, identifier_of};
-ghost use Rattle.model_rules.specs.Inner.{settled_by, in_suspended, decide_array, decide_identifier, decide_read, decide_write, decide_kind};
+ghost use Rattle.model_rules.specs.Inner.{settled_by, in_suspended, decide_array, decide_identifier, decide_read, decide_write};
+ghost use Rattle.model_rules.specs.Inner.{decide_kind};
 ghost use Rattle.model_rules.specs.Inner.{decide_judged, asks_array};
 ghost use Rattle.model_types.specs.Phases.{is_suspended, is_free};
 ghost use Rattle.model_types.specs.Kinds.{is_read};

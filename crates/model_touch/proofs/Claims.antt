@@ -95,7 +95,7 @@ none_begun o d v bs idle bytes =
 
 -- From an improper state, on an unknown device or an array of another length nothing changes, state nor bytes.
 pub wrong_start_lem : {g : Engine} → Ours g → (d : Device) (v : World) (bs : List Bus) → wrong_start d v ≡ true → (i : ℕ) → before g d v bs i ≡ v
-wrong_start_lem o d v bs e = either_engine (λ (g : Engine). (i : ℕ) → before g d v bs i ≡ v) (λ i. further.wrong_start d bs i v e) o
+wrong_start_lem o d v bs e = either_engine (λ (g : Engine). (i : ℕ) → before g d v bs i ≡ v) (λ i. further.wrong_start_lem d bs i v e) o
 
 -- The two engines lead to the same state and the same lent bytes, after any cycles.
 pub same_history : (d : Device) (v : World) (bs : List Bus) → after_all by_table d v bs ≡ after_all by_rules d v bs

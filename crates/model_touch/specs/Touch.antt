@@ -1,6 +1,7 @@
 -- What may touch which byte: any cycles on lent bytes by either engine, and the statement that the manual prints. Addresses x are byte
 -- addresses of the lent array in both widths.
-use Rattle.std.specs.Prelude.{◌≡◌, Bool, true, false, not, ◌&&◌, ◌||◌, List, [], ◌∷◌, ℕ, zero, suc, ◌+◌, ◌<◌, length, get_or, take, eqb, ltb, leb}
+use Rattle.std.specs.Prelude.{◌≡◌, Bool, true, false, not, ◌&&◌, ◌||◌, List, [], ◌∷◌, ℕ, zero, suc, ◌+◌, ◌<◌, length, get_or, take, eqb}
+use Rattle.std.specs.Prelude.{ltb, leb}
 use Rattle.std.specs.Int.Bits.{bit_and}
 use Rattle.units.specs.Units.{units, lent, bytes_in}
 use Rattle.units.specs.Address.{byte_of}

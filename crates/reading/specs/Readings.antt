@@ -39,7 +39,8 @@ ends_wrong p = not (rises_to p 0 (knots p - 1))
 
 -- 41, of the pair that the search finds, where x is neither below the first knot nor above the last
 unfoldable pub pair_wrong : List ℕ → ℤ → Bool
-pair_wrong p x = not (lt_z x (volts_of p 0)) && (not (lt_z (volts_of p (knots p - 1)) x) && not (rises_to p (seek_of p x) (seek_of p x + 1)))
+pair_wrong p x =
+    not (lt_z x (volts_of p 0)) && (not (lt_z (volts_of p (knots p - 1)) x) && not (rises_to p (seek_of p x) (seek_of p x + 1)))
 
 -- the refusals of a payload that was not judged: 40 by its length, and 41 by the four knots that the reading is made of
 -- (R-number-40, R-number-41)

@@ -7,7 +7,8 @@ ghost use Rattle.std.specs.Float.Ieee.{of_int};
 ghost use Rattle.std.specs.Float.{binary64};
 ghost use Rattle.file_codec.specs.File.{limit, reader_of, in_room, left_in};
 ghost use Rattle.reading_table.specs.Table.{volts_of};
-ghost use Rattle.reading.specs.Readings.{heat_of, pair_at, reading_of, reading_number, reading_answer, table_answer, answer_as, answer_told};
+ghost use Rattle.reading.specs.Readings.{heat_of, pair_at, reading_of, reading_number, reading_answer, table_answer, answer_as};
+ghost use Rattle.reading.specs.Readings.{answer_told};
 ghost use Rattle.reading.specs.Readings.{told_at, told_as};
 
 use file_codec::ReadBack;

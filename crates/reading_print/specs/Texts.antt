@@ -1,5 +1,6 @@
 -- A knot and a temperature as text.
-use Rattle.std.specs.Prelude.{ℕ, ◌+◌, ◌*◌, ◌/◌, ◌%◌, ◌<◌, ◌≤◌, Bool, true, false, List, [], ◌∷◌, ◌++◌, ℤ, pos, negsuc, int_lt, nat_lt, unsigned_abs, Float, if◌then◌else◌}
+use Rattle.std.specs.Prelude.{ℕ, ◌+◌, ◌*◌, ◌/◌, ◌%◌, ◌<◌, ◌≤◌, Bool, true, false, List, [], ◌∷◌, ◌++◌, ℤ, pos, negsuc, int_lt, nat_lt}
+use Rattle.std.specs.Prelude.{unsigned_abs, Float, if◌then◌else◌}
 use Rattle.std.specs.Float.{fin, binary64}
 use Rattle.std.specs.Float.Ieee.{add, neg, lt, le, to_unsigned}
 use Rattle.text.specs.Digits.{decimal_of}

@@ -1,5 +1,6 @@
 -- A payload as a table of knots, and its refusals 40 and 41.
-use Rattle.std.specs.Prelude.{Bool, true, not, ◌&&◌, ◌||◌, List, [], ◌∷◌, ℕ, zero, suc, ◌+◌, ◌-◌, ◌*◌, ◌/◌, ◌%◌, ltb, eqb, ℤ, pos, negsuc, get_or, length, if◌then◌else◌}
+use Rattle.std.specs.Prelude.{Bool, true, not, ◌&&◌, ◌||◌, List, [], ◌∷◌, ℕ, zero, suc, ◌+◌, ◌-◌, ◌*◌, ◌/◌, ◌%◌, ltb, eqb, ℤ, pos}
+use Rattle.std.specs.Prelude.{negsuc, get_or, length, if◌then◌else◌}
 use Rattle.std.specs.Int.Signed.{lt_z, le_z}
 use Rattle.common.specs.Numbers.{Row, row, given}
 use Rattle.file_codec.specs.File.{limit}
@@ -31,7 +32,8 @@ most_knots = 505 * limit / 6
 -- knot i's microvolts, bytes 0 to 3 of the six; 0 past the last knot (R-reading-1)
 unfoldable pub volts_of : List ℕ → ℕ → ℤ
 volts_of p i =
-    if ltb i (knots p) then signed32 (word32 (get_or p (6 * i) 0) (get_or p (6 * i + 1) 0) (get_or p (6 * i + 2) 0) (get_or p (6 * i + 3) 0))
+    if ltb i (knots p) then signed32 (word32 (get_or p (6 * i) 0) (get_or p (6 * i + 1) 0)
+    (get_or p (6 * i + 2) 0) (get_or p (6 * i + 3) 0))
     else pos 0
 
 -- knot i's tenths of a degree, bytes 4 and 5; 0 past the last knot (R-reading-1)

@@ -13,7 +13,8 @@ bits_of n top = if n.minus then (top - n.size % top) % top else n.size % top
 
 -- the six bytes of a knot, high byte first
 abbrev pub six_of : ℕ → ℕ → List ℕ
-six_of volts tenths = volts / 16777216 % 256 ∷ volts / 65536 % 256 ∷ volts / 256 % 256 ∷ volts % 256 ∷ tenths / 256 % 256 ∷ tenths % 256 ∷ []
+six_of volts tenths =
+    volts / 16777216 % 256 ∷ volts / 65536 % 256 ∷ volts / 256 % 256 ∷ volts % 256 ∷ tenths / 256 % 256 ∷ tenths % 256 ∷ []
 
 -- a payload with knot k in its place, where there is room for it
 unfoldable pub with_knot : List ℕ → ℕ → Number → Number → List ℕ

@@ -32,7 +32,7 @@ reads_back = back.read_back
 
 -- A text is a number exactly where it is of the form: a minus or none, then one digit or more that count less than 1,000,000,000.
 pub number_exactly : (text : List ℕ) → (is_number (number_fed text) ≡ true) ↔ NumberForm text
-number_exactly text = (formed.number_form text, taken.is-number text)
+number_exactly text = (formed.number_form text, taken.is_number_lem text)
 
 -- A text is taken as a table of n knots exactly where it is n lines of the form and there is room for them.
 pub taken_exactly : (text out : List ℕ) (n : ℕ) → (table_read (table_scanned text out).scan ≡ Knots n) ↔ (TableForm text 0 n × (n ≤ length out / 6))

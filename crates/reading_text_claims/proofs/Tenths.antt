@@ -10,7 +10,7 @@ use lib.IntN.{ℤ, nat_abs}
 use lib.Signed.{le_z}
 use lib.Ieee.{Float, nan, inf, fin, binary64, up, down, lt, eq, le, of_int, fits}
 use lib.Ieee.Exact.{HasValue}
-use lib.Ieee.Fits.{down_pos, add_fits, of_int-fits}
+use lib.Ieee.Fits.{down_pos, add-fits, of_int-fits}
 use lib.Ieee.Positive.{num, den}
 use borrow.Author.Tests.{ltb-true, eqb-true}
 use Rattle.reading_pair.specs.Order.{LiesBetween}
@@ -123,7 +123,7 @@ pair_shown : (p : List ℕ) (x : ℤ) (r : Float) → Told p x r → ShownBest r
 pair_shown p x r t = subst ShownBest (sym t.is) (go (le_z (tenths_of p t.lower) (tenths_of p (t.lower + 1))) refl)
   where
     held : T (fits binary64 (interpolated (pair_at p t.lower) (of_int binary64 x)))
-    held = add_fits binary64 _ _
+    held = add-fits binary64 _ _
 
     go : (u : Bool) → le_z (tenths_of p t.lower) (tenths_of p (t.lower + 1)) ≡ u → ShownBest (interpolated (pair_at p t.lower) (of_int binary64 x))
     go true e =

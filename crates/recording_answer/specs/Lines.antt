@@ -83,7 +83,8 @@ differs_text v = (bytes "the end is at fault: the array differs from the one pro
 
 -- the array promised is shorter: n bytes, and the part has m
 abbrev pub shorter_text : ℕ → ℕ → List ℕ
-shorter_text n m = (around (bytes "the end is at fault: the array promised has ") n (bytes " bytes, the part ") ++ decimal_of m) ++ bytes "\n"
+shorter_text n m =
+    (around (bytes "the end is at fault: the array promised has ") n (bytes " bytes, the part ") ++ decimal_of m) ++ bytes "\n"
 
 -- the array promised has another length, n bytes where the part has m; a number of 32 bits is told
 unfoldable pub lengths_text : ℕ → ℕ → List ℕ

@@ -36,7 +36,8 @@ made_by d v (b ∷ bs) = made_by d (made_one d v b) bs
 -- no cycle is refused, and none cuts an operation
 abbrev pub smoothly : Device → Held → List Bus → Bool
 smoothly d v [] = true
-smoothly d v (b ∷ bs) = (not (is_refusal (decided_on d v b).reply) && not (is_cut (decided_on d v b).effect)) && smoothly d (made_one d v b) bs
+smoothly d v (b ∷ bs) =
+    (not (is_refusal (decided_on d v b).reply) && not (is_cut (decided_on d v b).effect)) && smoothly d (made_one d v b) bs
 
 -- an answer as it is noted down
 abbrev pub heard_of : Seen → Heard

@@ -9,7 +9,8 @@ use Rattle.model_levels.specs.Levels.{vpp_high, unlocked}
 use Rattle.model.specs.Arrays.{Accepted}
 use Rattle.model.specs.Begun.{operation_of}
 use Rattle.model_history.specs.History.{Bus, World, world_of}
-use Rattle.model_touch.specs.Touch.{by_rules, answer_on, after_cycle, effect_on, begun_on, asked_on, in_unit, in_block, is_on, Differs, TouchesOnly}
+use Rattle.model_touch.specs.Touch.{by_rules, answer_on, after_cycle, effect_on, begun_on, asked_on, in_unit, in_block, is_on, Differs}
+use Rattle.model_touch.specs.Touch.{TouchesOnly}
 use Rattle.model_touch.specs.Touch.{OnlyClears}
 use Rattle.recording.specs.declared.Noted.{Noted}
 use Rattle.recording.specs.Recordings.{time_of}

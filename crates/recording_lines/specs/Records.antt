@@ -41,7 +41,8 @@ heard_stated xs = if eqb (get_or xs 20 0) 68 then Told (two_hex (get_or xs 22 0)
 
 -- the busy count that a line states, 0 where none is told
 unfoldable pub count_stated : List ℕ → ℕ
-count_stated xs = if eqb (get_or xs 25 0) 45 then 0 else five_digits (get_or xs 25 0) (get_or xs 26 0) (get_or xs 27 0) (get_or xs 28 0) (get_or xs 29 0)
+count_stated xs =
+    if eqb (get_or xs 25 0) 45 then 0 else five_digits (get_or xs 25 0) (get_or xs 26 0) (get_or xs 27 0) (get_or xs 28 0) (get_or xs 29 0)
 
 -- the record that a line states, read off its places
 unfoldable pub record_stated : List ℕ → Noted

@@ -77,7 +77,8 @@ unfoldable pub lines_from : ℕ → State → List ℕ → List ℕ → List ℕ
 lines_from zero s xs rs text = []
 lines_from (suc k) s xs rs text =
     line_for (take 20 text) (line_step s (cycle_stated (take 20 text)) xs rs).seen (busy_of bench_t s (cycle_stated (take 20 text)))
-    ++ lines_from k (line_step s (cycle_stated (take 20 text)) xs rs).state (array_by s (cycle_stated (take 20 text)) xs rs) rs (drop 20 text)
+    ++ lines_from k (line_step s (cycle_stated (take 20 text)) xs rs).state (array_by s (cycle_stated (take 20 text)) xs rs) rs
+    (drop 20 text)
 
 -- what is known after them, line n the first
 unfoldable pub log_from : ℕ → ℕ → Log → List ℕ → List ℕ → List ℕ → Log

@@ -11,7 +11,8 @@ ghost use Rattle.trace_lines.specs.Lines.{decimal_digit, cycle_stated};
 ghost use Rattle.trace_replay.specs.Replays.{bench_t, line_step, array_by, arrays_of};
 ghost use Rattle.recording.specs.Recordings.{cuts_off};
 ghost use Rattle.recording_replay.specs.Recorded.{time_awaited, busy_of, refusal_number, first_line, first_number, log_by, answer_for};
-ghost use Rattle.recording_replay.specs.Recorded.{count_for, line_for, lines_from, log_from, no_log, bad_behind, used_for, made_from, no_room};
+ghost use Rattle.recording_replay.specs.Recorded.{count_for, line_for, lines_from, log_from, no_log, bad_behind, used_for, made_from};
+ghost use Rattle.recording_replay.specs.Recorded.{no_room};
 ghost use Rattle.recording_replay.specs.Recorded.{trace_made, array_made, out_made, line_note, refused_note, note_of};
 
 use device::Device;

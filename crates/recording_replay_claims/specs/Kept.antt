@@ -17,4 +17,5 @@ abbrev pub records_for : ℕ → State → List ℕ → List ℕ → List ℕ �
 records_for zero s xs rs text = []
 records_for (suc k) s xs rs text =
     record_for s (cycle_stated (take 20 text)) xs rs
-    ∷ records_for k (line_step s (cycle_stated (take 20 text)) xs rs).state (array_by s (cycle_stated (take 20 text)) xs rs) rs (drop 20 text)
+    ∷ records_for k (line_step s (cycle_stated (take 20 text)) xs rs).state (array_by s (cycle_stated (take 20 text)) xs rs) rs
+    (drop 20 text)

@@ -25,7 +25,8 @@ array_through (c ∷ cs) s xs rs = array_through cs (line_step s c xs rs).state 
 -- .. the answers to the cycles, as they are printed
 unfoldable pub answers_through : List Cycle → State → List ℕ → List ℕ → List ℕ
 answers_through [] s xs rs = []
-answers_through (c ∷ cs) s xs rs = printed_of (line_step s c xs rs) ++ answers_through cs (line_step s c xs rs).state (array_by s c xs rs) rs
+answers_through (c ∷ cs) s xs rs =
+    printed_of (line_step s c xs rs) ++ answers_through cs (line_step s c xs rs).state (array_by s c xs rs) rs
 
 -- a run past the trace line at x
 abbrev pub line_run : List ℕ → Run → List ℕ → List ℕ → Run

@@ -53,7 +53,8 @@ change_number d s p array memory scratch = given (change_rows d s p array memory
 
 -- .. of a drop: 44, 42
 abbrev pub drop_rows : Device → State → Pins → List ℕ → ℕ → ℕ → ℕ → List Row
-drop_rows d s p xs memory scratch ℓ = change_rows d s p (length xs) memory scratch (find_rows (reader_number limit) ℓ (main_of d.part xs) [])
+drop_rows d s p xs memory scratch ℓ =
+    change_rows d s p (length xs) memory scratch (find_rows (reader_number limit) ℓ (main_of d.part xs) [])
 
 -- .. of an add: the reader's for the letter, then 44, 43
 abbrev pub adding_rows : Device → State → Pins → List ℕ → ℕ → ℕ → List ℕ → ℕ → List Row

@@ -10,7 +10,8 @@ ghost use Rattle.file_codec.specs.File.{limit, in_room, reader_of};
 ghost use Rattle.reading_table.specs.Table.{tenths_of};
 ghost use Rattle.reading_print.specs.Texts.{temperature_text};
 ghost use Rattle.store_answer.specs.Words.{store_words, refused_line, change_line};
-ghost use Rattle.store_answer.specs.Listing.{pace_as, pace_by, pace_on, map_piece, knots_text, payload_text, file_text, head_text, body_text};
+ghost use Rattle.store_answer.specs.Listing.{pace_as, pace_by, pace_on, map_piece, knots_text, payload_text, file_text, head_text};
+ghost use Rattle.store_answer.specs.Listing.{body_text};
 ghost use Rattle.store_answer.specs.Listing.{row_text, row_by, row_piece, piece_of, pieces_of, list_text, list_of};
 
 use file_codec::ReadBack;

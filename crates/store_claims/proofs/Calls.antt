@@ -183,8 +183,8 @@ module _ (d : Device) (xs : List ℕ) (c : Call) (T : Timed d) (B : Bytes xs) (F
       (record { accepted = run_rows; high = v; unlock = λ (e : 3 ≡ 0). absurd (omega arith); array_bytes = B; wanted_bytes = wanted_bytes; programs = T.programs; erases = T.erases })
 
   -- ended well, at whatever supply
-  pub array_left_lem : (call_left d xs c).ran.end ≡ 0 → (call_left d xs c).bytes ≡ overlaid xs (start_of d.part 3) new
-  array_left_lem e =
+  pub array_left : (call_left d xs c).ran.end ≡ 0 → (call_left d xs c).bytes ≡ overlaid xs (start_of d.part 3) new
+  array_left e =
       let r = ap (λ (x : ChangeLeft). x.ran.end) made_by_run ∙ ap (λ (x : RunLeft). x.ran.end) of_bytes in
       ap (λ (x : ChangeLeft). x.bytes) made_by_run ∙ ap (λ (x : RunLeft). x.bytes) of_bytes
       ∙ ended_well (change_job d c.state c.pins) xs new c.scratch taken (sym r ∙ e)
@@ -194,21 +194,21 @@ module _ (d : Device) (xs : List ℕ) (c : Call) (T : Timed d) (B : Bytes xs) (F
 
   pub main_left : (call_left d xs c).ran.end ≡ 0 → main_of d.part (call_left d xs c).bytes ≡ new
   main_left e =
-      ap (main_of d.part) (array_left_lem e)
+      ap (main_of d.part) (array_left e)
       ∙ ap (λ (y : List ℕ). take (length_of d.part 3) y) (drop_at (take (start_of d.part 3) xs) _ (start_of d.part 3) (length-take-le (start_of d.part 3) xs (omega (arith, here.inside))))
       ∙ take_at new (drop (length new) (drop (start_of d.part 3) xs)) (length_of d.part 3) new_long
 
   pub bytes_left : (call_left d xs c).ran.end ≡ 0 → Bytes (call_left d xs c).bytes
-  bytes_left e = subst Bytes (sym (array_left_lem e)) (bytes_overlaid xs (start_of d.part 3) new B wanted_bytes)
+  bytes_left e = subst Bytes (sym (array_left e)) (bytes_overlaid xs (start_of d.part 3) new B wanted_bytes)
 
   pub size_left : (call_left d xs c).ran.end ≡ 0 → length (call_left d xs c).bytes ≡ length xs
-  size_left e = ap (λ (ys : List ℕ). length ys) (array_left_lem e) ∙ overlaid_length xs (start_of d.part 3) new room
+  size_left e = ap (λ (ys : List ℕ). length ys) (array_left e) ∙ overlaid_length xs (start_of d.part 3) new room
 
   pub others_left : (call_left d xs c).ran.end ≡ 0 → (x : ℕ)
       → (x < start_of d.part 3 → get_or (call_left d xs c).bytes x 0 ≡ get_or xs x 0) × (start_of d.part 3 + length_of d.part 3 ≤ x → get_or (call_left d xs c).bytes x 0 ≡ get_or xs x 0)
   others_left e x =
       let a = start_of d.part 3 in
-      let g = ap (λ (ys : List ℕ). get_or ys x 0) (array_left_lem e) in (
+      let g = ap (λ (ys : List ℕ). get_or ys x 0) (array_left e) in (
         λ (h : x < a). g ∙ overlaid_before xs a new room x h,
         λ (h : a + length_of d.part 3 ≤ x).
             (let q : a + (length new + (x - a - length new)) ≡ x = omega (arith, new_long, h) in

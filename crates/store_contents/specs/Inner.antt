@@ -1,5 +1,6 @@
 -- The new contents of a block, told by its bytes, as the code makes them. Nobody has to believe these.
-use Rattle.std.specs.Prelude.{List, [], ◌∷◌, ◌++◌, ℕ, zero, suc, ◌+◌, ◌*◌, ◌-◌, Bool, ◌||◌, length, get_or, take, set, replicate, eqb, if◌then◌else◌}
+use Rattle.std.specs.Prelude.{List, [], ◌∷◌, ◌++◌, ℕ, zero, suc, ◌+◌, ◌*◌, ◌-◌, Bool, ◌||◌, length, get_or, take, set, replicate, eqb}
+use Rattle.std.specs.Prelude.{if◌then◌else◌}
 use Rattle.store_places.specs.Store.{join, Item, blank, dead, filed, junk}
 
 -- 00H over the first byte of k places, the first of them at byte `from`

@@ -1,5 +1,6 @@
 -- The store: several files in one block of 512-byte places.
-use Rattle.std.specs.Prelude.{◌≡◌, List, [], ◌∷◌, ◌++◌, Bool, true, false, not, ◌&&◌, ◌||◌, ℕ, zero, suc, ◌+◌, ◌*◌, ◌-◌, ◌/◌, ◌<◌, length, get_or, take, drop, set, replicate, eqb, ltb, if◌then◌else◌}
+use Rattle.std.specs.Prelude.{◌≡◌, List, [], ◌∷◌, ◌++◌, Bool, true, false, not, ◌&&◌, ◌||◌, ℕ, zero, suc, ◌+◌, ◌*◌, ◌-◌, ◌/◌, ◌<◌}
+use Rattle.std.specs.Prelude.{length, get_or, take, drop, set, replicate, eqb, ltb, if◌then◌else◌}
 use Rattle.common.specs.Numbers.{Row, row, given}
 use Rattle.file_check.specs.Check.{is_blank}
 

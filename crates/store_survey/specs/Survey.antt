@@ -2,7 +2,8 @@
 use Rattle.std.specs.Prelude.{List, [], ◌∷◌, Bool, false, ℕ, ◌+◌, length, drop, eqb, if◌then◌else◌}
 use Rattle.common.specs.Numbers.{given}
 use Rattle.file_codec.specs.File.{limit, read_rows}
-use Rattle.store_places.specs.Store.{Judgement, Item, blank, dead, filed, junk, item_at, more_of, find_in, live_in, blank_run, fits_in, places_in}
+use Rattle.store_places.specs.Store.{Judgement, Item, blank, dead, filed, junk, item_at, more_of, find_in, live_in, blank_run, fits_in}
+use Rattle.store_places.specs.Store.{places_in}
 use Rattle.store_places.specs.Store.{items_in, is_proper}
 use Rattle.store_survey.specs.declared.Spot.{Spot}
 use Rattle.store_survey.specs.declared.Spot.TheVariants.{Blank, Dead, File, Junk}

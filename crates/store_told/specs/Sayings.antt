@@ -149,7 +149,8 @@ unfoldable pub answered : ℕ → List ℕ → List ℕ → List ℕ → List �
 answered count word xs device letter volts f memory scratch =
     if call_wrong count word letter then shown (misasked memory) xs scratch
     else if is_change (get_or word 0 0)
-    then ended (change_of (get_or word 0 0) (part_of device) xs memory scratch f (get_or letter 0 0)) (bytes_of (part_of device) memory scratch)
+    then ended (change_of (get_or word 0 0) (part_of device) xs memory scratch f (get_or letter 0 0))
+    (bytes_of (part_of device) memory scratch)
     memory scratch
     else shown (asked (get_or word 0 0) (part_of device) xs (get_or letter 0 0) volts memory) xs scratch
 

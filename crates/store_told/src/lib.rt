@@ -11,7 +11,8 @@ ghost use Rattle.reading_text.specs.Numbers.{number_told};
 ghost use Rattle.store_find.specs.Finds.{found_as, read_by};
 ghost use Rattle.store.specs.Stores.{found_on};
 ghost use Rattle.store_answer.specs.Words.{change_line};
-ghost use Rattle.store_told.specs.Sayings.{is_change, is_word, call_wrong, usage, part_of, list_line, answer_line, find_asked, read_by_said};
+ghost use Rattle.store_told.specs.Sayings.{is_change, is_word, call_wrong, usage, part_of, list_line, answer_line, find_asked};
+ghost use Rattle.store_told.specs.Sayings.{read_by_said};
 ghost use Rattle.store_told.specs.Sayings.{asked, asked_on, bytes_of, change_of, answered, answered_on, said_on};
 
 use device::{Device, Part};

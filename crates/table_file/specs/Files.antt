@@ -76,6 +76,9 @@ unfoldable pub made_of : List ℕ → List ℕ → List ℕ → ℕ → Made
 made_of text letter payload room =
     if eqb (length letter) 1 then (
     if ltb longest (length text) then record { said = complaint long_line; payload = payload }
-    else record { said = scanned_said (get_or letter 0 0) room (table_scanned text payload); payload = (table_scanned text payload).payload }
+    else record {
+      said = scanned_said (get_or letter 0 0) room (table_scanned text payload);
+      payload = (table_scanned text payload).payload;
+    }
     )
     else record { said = complaint usage; payload = payload }

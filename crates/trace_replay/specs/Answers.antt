@@ -26,7 +26,8 @@ second_sign (Refused n) = decimal_digit n
 
 -- an answer printed: what is seen, then a status register (R-trace-2)
 unfoldable pub answer_text : Seen → ℕ → List ℕ
-answer_text seen sr = sign_of seen ∷ 32 ∷ first_sign seen ∷ second_sign seen ∷ 32 ∷ digit_letter (sr / 16 % 16) ∷ digit_letter (sr % 16) ∷ 10 ∷ []
+answer_text seen sr =
+    sign_of seen ∷ 32 ∷ first_sign seen ∷ second_sign seen ∷ 32 ∷ digit_letter (sr / 16 % 16) ∷ digit_letter (sr % 16) ∷ 10 ∷ []
 
 -- the answer to a line: the status register is the one after the cycle
 abbrev pub printed_of : Answer → List ℕ

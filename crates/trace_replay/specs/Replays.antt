@@ -41,7 +41,8 @@ unfoldable pub answers_of : ℕ → State → List ℕ → List ℕ → List ℕ
 answers_of zero s xs rs text = []
 answers_of (suc k) s xs rs text =
     printed_of (line_step s (cycle_stated (take 20 text)) xs rs)
-    ++ answers_of k (line_step s (cycle_stated (take 20 text)) xs rs).state (array_by s (cycle_stated (take 20 text)) xs rs) rs (drop 20 text)
+    ++ answers_of k (line_step s (cycle_stated (take 20 text)) xs rs).state (array_by s (cycle_stated (take 20 text)) xs rs) rs
+    (drop 20 text)
 
 -- .. the array that the first k lines leave
 unfoldable pub arrays_of : ℕ → State → List ℕ → List ℕ → List ℕ → List ℕ
@@ -65,7 +66,8 @@ unfoldable pub array_from : ℕ → State → List ℕ → List ℕ → List ℕ
 array_from zero s xs rs text = xs
 array_from (suc k) s xs rs text =
     if is_line (take 20 text)
-    then array_from k (line_step s (cycle_stated (take 20 text)) xs rs).state (array_by s (cycle_stated (take 20 text)) xs rs) rs (drop 20 text)
+    then array_from k (line_step s (cycle_stated (take 20 text)) xs rs).state (array_by s (cycle_stated (take 20 text)) xs rs) rs
+    (drop 20 text)
     else xs
 
 -- a whole trace: a fresh device, lines counted from 1, line 9999 never answered (R-trace-3)

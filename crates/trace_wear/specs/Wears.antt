@@ -13,7 +13,8 @@ unfoldable pub state_from : ℕ → State → List ℕ → List ℕ → List ℕ
 state_from zero s xs rs text = s
 state_from (suc k) s xs rs text =
     if is_line (take 20 text)
-    then state_from k (line_step s (cycle_stated (take 20 text)) xs rs).state (array_by s (cycle_stated (take 20 text)) xs rs) rs (drop 20 text)
+    then state_from k (line_step s (cycle_stated (take 20 text)) xs rs).state (array_by s (cycle_stated (take 20 text)) xs rs) rs
+    (drop 20 text)
     else s
 
 -- what a trace that ends before line n has for a bad line: none, which is 0, where no byte is left over

@@ -1,6 +1,7 @@
 -- Units of lent bytes, by the width (false: byte mode, true: word mode). A unit is what one cycle carries: a byte, or in word mode a
 -- word, its low byte first.
-use Rattle.std.specs.Prelude.{Bool, true, false, ◌&&◌, List, [], ◌∷◌, ℕ, ◌+◌, ◌*◌, ◌/◌, ◌%◌, length, take, replicate, eqb, leb, if◌then◌else◌}
+use Rattle.std.specs.Prelude.{Bool, true, false, ◌&&◌, List, [], ◌∷◌, ℕ, ◌+◌, ◌*◌, ◌/◌, ◌%◌, length, take, replicate, eqb, leb}
+use Rattle.std.specs.Prelude.{if◌then◌else◌}
 use Rattle.common.specs.Lists.{overlaid}
 
 -- a word by its two bytes

@@ -1,5 +1,6 @@
 -- The line that a verify prints: what is asked, the verify itself, and its result in words.
-use Rattle.std.specs.Prelude.{Bool, false, not, ◌&&◌, ◌||◌, List, [], ◌++◌, ℕ, min, eqb, ltb, length, get_or, take, drop, replicate, if◌then◌else◌}
+use Rattle.std.specs.Prelude.{Bool, false, not, ◌&&◌, ◌||◌, List, [], ◌++◌, ℕ, min, eqb, ltb, length, get_or, take, drop, replicate}
+use Rattle.std.specs.Prelude.{if◌then◌else◌}
 use Rattle.text.specs.Digits.{is_digit, digit_of, spelled}
 use Rattle.text.specs.Writing.{bytes}
 use Rattle.refusal_words.specs.Words.{file_words, refused_text}
@@ -79,7 +80,8 @@ verify_job part k = job_of Verify (device_of part) fresh_state reading k
 
 -- the verify of block k of an image of a part that is fresh, in the front of the rooms lent
 unfoldable pub verify_of : Part → ℕ → List ℕ → List ℕ → List ℕ → List ℕ → ℕ → LoadLeft
-verify_of part k xs w sc f letter = load_left (verify_job part k) xs (take (bytes_of part k w sc) w) (take (bytes_of part k w sc) sc) f letter
+verify_of part k xs w sc f letter =
+    load_left (verify_job part k) xs (take (bytes_of part k w sc) w) (take (bytes_of part k w sc) sc) f letter
 
 -- how the program is called
 abbrev pub usage : List ℕ

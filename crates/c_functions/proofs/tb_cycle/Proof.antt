@@ -69,8 +69,8 @@ returns_3 c = let a = c.before.before.before.before.before.before.before.before.
     let m = c.before.before.if7.true in
     (c.rested3.ensures ∙ (λ i. rested_as a.state 1 c.before.wide.result (sym m i) a.state.status 0) ∙ status_answer a.device a.state a.bus xs rs o r k m _ c.before.wide.ensures.0, unwritten a.device a.state a.bus xs rs o r _ _ (reads_status a.device a.state a.bus xs rs o r k m) (λ i. (c.before.before.before.before.before.before.before.before.before.before.before.before.before.before.before.slice-known.given i).fits))
 
-command_of_requires : tie.Need-command-of-requires
-command_of_requires c κs = search rules
+command_by_requires : tie.Need-command-by-requires
+command_by_requires c κs = search rules
 
 rested_requires_4 : tie.Need-rested-requires-4
 rested_requires_4 c κs = search rules
@@ -80,7 +80,7 @@ returns_4 c = let a = c.before.before.before.before.before.before.before.before.
     let xs = a.array.now in
     let rs = a.residue.now in
     let r = resting_is a.state (sym c.before.before.before.before.before.before.before.before.before.before.is-resting.ensures ∙ c.before.before.before.before.before.before.before.before.before.if1.true) in
-    let q = c.before.before.command-of in
+    let q = c.before.before.command-by in
     let k = known_kind (leb 5 a.device.number) a.bus.kind _ a.state.mode a.state.status q.result q.ensures c.before.if8.true in
     let o : Ordinary a.device a.bus (length xs) = record { fair = fair_in_lem a.device a.bus _ (sym c.before.before.before.before.before.before.before.before.is-fair.ensures ∙ c.before.before.before.before.before.before.before.if2.true) k; up = ne_eqb a.bus.rp 0 c.before.before.before.before.before.if3.false } in
     let t = command_told a.device a.state a.bus xs rs o r q.result q.ensures c.before.if8.true in
@@ -120,7 +120,7 @@ tb_cycle_spec =
     wide_requires
     rested_requires_3
     returns_3
-    command_of_requires
+    command_by_requires
     rested_requires_4
     returns_4
     other_cycle_requires

@@ -2,7 +2,7 @@
 use mathlib.Core.Path.{◌≡◌, sym, ◌∙◌}
 use native.Mathlib.Omega.{arith}
 use borrow.Author.Tests.{ne_eqb}
-use Rattle.c_operations.proofs.Supplying.{supplies}
+use Rattle.c_operations.proofs.Supplying.{supplies_fair}
 use borrow.Author.Rules.{rules}
 use Rattle.c_operations.proofs.other_cycle.Statement.{statement}
 use Rattle.c_operations.proofs.other_cycle.Tie as tie
@@ -19,7 +19,7 @@ is_up_requires c κs = search rules
 write_cycle_requires : tie.Need-write-cycle-requires
 write_cycle_requires c κs = let i = c.before.before.before.before.before.if1.true in
     let u = c.before.before.before.before.before.before.fair-units.ensures (omega (arith, i)) in
-    (supplies c.before.before.before.before.before.before.before.before.before.before.args.device c.before.before.before.before.before.before.before.before.before.before.args.bus _ u.0 (sym c.before.before.before.before.is_up.ensures ∙ c.before.before.before.if2.true), omega (arith, i, u.1), c.before.if3.true)
+    (supplies_fair c.before.before.before.before.before.before.before.before.before.before.args.device c.before.before.before.before.before.before.before.before.before.before.args.bus _ u.0 (sym c.before.before.before.before.is_up.ensures ∙ c.before.before.before.if2.true), omega (arith, i, u.1), c.before.if3.true)
 
 same_length : tie.Need-same-length
 same_length c = search rules
@@ -30,7 +30,7 @@ returns c = search rules
 poll_cycle_requires : tie.Need-poll-cycle-requires
 poll_cycle_requires c κs = let i = c.before.before.before.before.before.if1.true in
     let u = c.before.before.before.before.before.before.fair-units.ensures (omega (arith, i)) in
-    (supplies c.before.before.before.before.before.before.before.before.before.before.args.device c.before.before.before.before.before.before.before.before.before.before.args.bus _ u.0 (sym c.before.before.before.before.is_up.ensures ∙ c.before.before.before.if2.true), omega (arith, i, u.1), ne_eqb c.before.before.before.before.before.before.before.before.before.before.args.bus.kind 1 c.before.if3.false)
+    (supplies_fair c.before.before.before.before.before.before.before.before.before.before.args.device c.before.before.before.before.before.before.before.before.before.before.args.bus _ u.0 (sym c.before.before.before.before.is_up.ensures ∙ c.before.before.before.if2.true), omega (arith, i, u.1), ne_eqb c.before.before.before.before.before.before.before.before.before.before.args.bus.kind 1 c.before.if3.false)
 
 same_length_2 : tie.Need-same-length-2
 same_length_2 c = search rules

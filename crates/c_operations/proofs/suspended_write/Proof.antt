@@ -41,8 +41,8 @@ returns_3 c = let a = c.before.before.before.before.before.before.before.before.
 is_resting_requires : tie.Need-is-resting-requires
 is_resting_requires c κs = search rules
 
-command_of_requires : tie.Need-command-of-requires
-command_of_requires c κs = search rules
+command_by_requires : tie.Need-command-by-requires
+command_by_requires c κs = search rules
 
 refused_requires : tie.Need-refused-requires
 refused_requires c κs = search rules
@@ -51,7 +51,7 @@ returns_4 : tie.Need-returns-4
 returns_4 c = let a = c.before.before.before.before.before.before.before.before.before.before.args in
     let p = c.before.before.before.before.before.before.before.before.before.before.requires in
     let r = resting_is a.n (sym c.before.before.before.before.before.is-resting.ensures ∙ c.before.before.before.before.if5.true) in
-    let t = rests.no_command a.d a.n a.b a.array.now a.residue.now p.0.ordinary r p.2 c.before.before.before.command-of.result c.before.before.before.command-of.ensures (not-true c.before.before.before.command-of.result.known c.before.if6.true) in
+    let t = rests.no_command a.d a.n a.b a.array.now a.residue.now p.0.ordinary r p.2 c.before.before.before.command-by.result c.before.before.before.command-by.ensures (not-true c.before.before.before.command-by.result.known c.before.if6.true) in
     (c.refused.ensures ∙ t.0, t.1 (λ i. (c.before.before.before.before.before.before.before.before.before.slice-known.given i).fits))
 
 typed_requires : tie.Need-typed-requires
@@ -75,7 +75,7 @@ suspended_write_spec =
     written_requires_3
     returns_3
     is_resting_requires
-    command_of_requires
+    command_by_requires
     refused_requires
     returns_4
     typed_requires

@@ -1,42 +1,46 @@
-use borrow.Author.Rules.{rules}
+-- `c_ordinary::is_level` meets its contract.
 use native.Mathlib.Omega.{arith}
-use borrow.Author.Tests.{lt-ltb, le-ltb, le-leb, lt-leb, eq-eqb, ne_eqb}
-use mathlib.Core.Path.{refl, sym, ◌∙◌}
+use borrow.Author.Tests.{eq-eqb, ne_eqb, lt-ltb, le-ltb, le-leb, lt-leb}
 use Rattle.c_ordinary.specs.Ordinary.{level_in}
 use Rattle.c_ordinary.proofs.is_level.Statement.{statement}
 use Rattle.c_ordinary.proofs.is_level.Tie as tie
-use Rattle.c_ordinary.proofs.is_level.Reads as reads
-use Rattle.c_ordinary.proofs.is_level.Lts as lts
 
--- src/lib.rt:64:9
 returns : tie.Need-returns
 unfolding level_in
-returns c = simp (ne_eqb _ _ c.if1.true)
+returns c = simp (ne_eqb c.before.args.oe 0 c.if1.true)
 
--- src/lib.rt:67:9
 returns_2 : tie.Need-returns-2
 unfolding level_in
-returns_2 c = simp (lt-ltb _ _ c.if2.true, eq-eqb _ _ c.before.if1.false)
+returns_2 c = simp (eq-eqb c.before.before.args.oe 0 c.before.if1.false, lt-ltb 1 c.before.before.args.wp c.if2.true)
 
--- src/lib.rt:70:9
 returns_3 : tie.Need-returns-3
 unfolding level_in
-returns_3 c = simp (lt-ltb _ _ c.if3.true, le-ltb _ _ c.before.if2.false, eq-eqb _ _ c.before.before.if1.false)
+returns_3 c = simp (eq-eqb c.before.before.before.args.oe 0 c.before.before.if1.false, le-ltb 1 c.before.before.before.args.wp c.before.if2.false, eq-eqb c.before.before.before.args.rp 0 (let l = c.if3.true in omega (arith, l)))
 
--- src/lib.rt:73:9
 returns_4 : tie.Need-returns-4
 unfolding level_in
-returns_4 c = simp (le-leb _ _ c.if4.true, le-ltb _ _ c.before.if3.false, le-ltb _ _ c.before.before.if2.false, eq-eqb _ _ c.before.before.before.if1.false)
+returns_4 c = simp (eq-eqb c.before.before.before.before.args.oe 0 c.before.before.before.if1.false, le-ltb 1 c.before.before.before.before.args.wp c.before.before.if2.false, ne_eqb c.before.before.before.before.args.rp 0 c.before.if3.false, lt-ltb 2 c.before.before.before.before.args.rp c.if4.true)
 
--- src/lib.rt:76:9
 returns_5 : tie.Need-returns-5
 unfolding level_in
-returns_5 c = simp (le-leb _ _ c.if5.true, lt-leb _ _ c.before.if4.false, le-ltb _ _ c.before.before.if3.false, le-ltb _ _ c.before.before.before.if2.false, eq-eqb _ _ c.before.before.before.before.if1.false)
+returns_5 c = simp (eq-eqb c.before.before.before.before.before.args.oe 0 c.before.before.before.before.if1.false, le-ltb 1 c.before.before.before.before.before.args.wp c.before.before.before.if2.false, ne_eqb c.before.before.before.before.before.args.rp 0 c.before.before.if3.false, le-ltb 2 c.before.before.before.before.before.args.rp c.before.if4.false, le-leb 11400 c.before.before.before.before.before.args.vpp c.if5.true)
 
--- src/lib.rt:60:1
 returns_6 : tie.Need-returns-6
 unfolding level_in
-returns_6 c = simp (lt-leb _ _ c.if5.false, lt-leb _ _ c.before.if4.false, le-ltb _ _ c.before.before.if3.false, le-ltb _ _ c.before.before.before.if2.false, eq-eqb _ _ c.before.before.before.before.if1.false)
+returns_6 c = simp (eq-eqb c.before.before.before.before.before.before.args.oe 0 c.before.before.before.before.before.if1.false, le-ltb 1 c.before.before.before.before.before.before.args.wp c.before.before.before.before.if2.false, ne_eqb c.before.before.before.before.before.before.args.rp 0 c.before.before.before.if3.false, le-ltb 2 c.before.before.before.before.before.before.args.rp c.before.before.if4.false, lt-leb 11400 c.before.before.before.before.before.before.args.vpp c.before.if5.false, le-leb 4500 c.before.before.before.before.before.before.args.vpp c.if6.true)
+
+returns_7 : tie.Need-returns-7
+unfolding level_in
+returns_7 c = simp (eq-eqb c.before.before.before.before.before.before.args.oe 0 c.before.before.before.before.before.if1.false, le-ltb 1 c.before.before.before.before.before.before.args.wp c.before.before.before.before.if2.false, ne_eqb c.before.before.before.before.before.before.args.rp 0 c.before.before.before.if3.false, le-ltb 2 c.before.before.before.before.before.before.args.rp c.before.before.if4.false, lt-leb 11400 c.before.before.before.before.before.before.args.vpp c.before.if5.false, lt-leb 4500 c.before.before.before.before.before.before.args.vpp c.if6.false)
 
 pub is_level_spec : {M : Type 1} → statement M
-is_level_spec = tie.close (tie.spec returns returns_2 returns_3 returns_4 returns_5 returns_6)
+is_level_spec =
+    tie.close
+    (tie.spec
+    returns
+    returns_2
+    returns_3
+    returns_4
+    returns_5
+    returns_6
+    returns_7)

@@ -14,14 +14,14 @@ unknown_requires c κs = search rules
 returns : tie.Need-returns
 returns c = λ e. absurd (unlike (sym e ∙ c.unknown.ensures))
 
-cast_command_of : tie.Need-overflow-cast-command-of
-cast_command_of c = search rules
+cast_command_by : tie.Need-overflow-cast-command-by
+cast_command_by c = search rules
 
-cast_command_of_2 : tie.Need-overflow-cast-command-of-2
-cast_command_of_2 c = search rules
+cast_command_by_2 : tie.Need-overflow-cast-command-by-2
+cast_command_by_2 c = search rules
 
-command_of_requires : tie.Need-command-of-requires
-command_of_requires c κs = search rules
+command_by_requires : tie.Need-command-by-requires
+command_by_requires c κs = search rules
 
 joined_requires : tie.Need-joined-requires
 joined_requires c κs = search rules
@@ -34,7 +34,7 @@ returns_2 c = let a = c.before.before.before.before.before.before.args in
     let q = c.leaves.ensures in
     let j = c.before.joined.ensures in
     λ e xs u k w.
-    let t = commanded a.d a.r xs u a.key k w (let s = c.before.before.before.before.if1.false in omega (arith, s)) c.before.before.before.command-of.result c.before.before.before.command-of.ensures c.before.before.if2.true c.before.joined.result j.0 j.1 j.2 j.3 in
+    let t = commanded a.d a.r xs u a.key k w (let s = c.before.before.before.before.if1.false in omega (arith, s)) c.before.before.before.command-by.result c.before.before.before.command-by.ensures c.before.before.if2.true c.before.joined.result j.0 j.1 j.2 j.3 in
     ((λ i. good (q i).key (q i).rest w) ∙ t.0, t.1)
 
 unknown_requires_2 : tie.Need-unknown-requires-2
@@ -49,9 +49,9 @@ rest_write_spec =
     (tie.spec
     unknown_requires
     returns
-    cast_command_of
-    cast_command_of_2
-    command_of_requires
+    cast_command_by
+    cast_command_by_2
+    command_by_requires
     joined_requires
     leaves_requires
     returns_2

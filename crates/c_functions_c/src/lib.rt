@@ -1,0 +1,340 @@
+// The library for a C program: each export hands its parameters to the function of its name in c_functions and promises what that does.
+// include/torfbarke.h declares the structs and the functions.
+#![tactic(auto)]
+
+ghost use Rattle.std.specs.Prelude.{◌≡◌, take};
+ghost use Rattle.model_states.specs.States.{fresh_state};
+ghost use Rattle.file_check.specs.Check.{check_of};
+ghost use Rattle.c_cycle.specs.Values.{state_out};
+ghost use Rattle.reading_table.specs.Table.{table_number};
+ghost use Rattle.c_functions.specs.Geometry.{size_returned, block_returned};
+ghost use Rattle.c_cycle.specs.Answers.{cycled, array_cycled};
+ghost use Rattle.c_functions.specs.Calls.{started, load_started, verify_started, run_of};
+ghost use Rattle.c_steps.specs.Steps.{stepped_of, scratch_stepped};
+ghost use Rattle.c_functions.specs.Calls.{array_run, scratch_run, load_run_of, array_load_run, scratch_load_run, verify_run_of};
+ghost use Rattle.c_functions.specs.Calls.{array_verify_run};
+ghost use Rattle.c_functions.specs.Calls.{scratch_verify_run, load_of, array_load, wanted_load, scratch_load, verify_file_of};
+ghost use Rattle.c_functions.specs.Calls.{array_verify_file, wanted_verify_file, scratch_verify_file, written_of, file_left, file_read};
+ghost use Rattle.c_functions.specs.Calls.{payload_left, reading_returned, reading_read, wear_added, wear_reported};
+
+use c_cycle::{AnswerNumbers, BusNumbers, DeviceNumbers, StateNumbers, WearNumbers};
+use c_readings::ReadingNumbers;
+use c_records::{
+    BlockNumbers, LoaderNumbers, RanNumbers, ResponseNumbers, SayingNumbers, SizedNumbers,
+};
+use c_wear::{ReportNumbers, ReportedNumbers};
+
+// A fresh device.
+#[unsafe(no_mangle)]
+pub extern "C" fn tb_fresh() -> StateNumbers
+    ensures { result ≡ state_out fresh_state }
+{
+    c_functions::tb_fresh()
+}
+
+// The bytes of a part's array, the same in either mode; 0 for a number that is no part's.
+#[unsafe(no_mangle)]
+pub extern "C" fn tb_size(part: u8) -> usize
+    ensures { result ≡ size_returned part }
+{
+    c_functions::tb_size(part)
+}
+
+// The first byte address and the bytes of a flash block, the same in either mode; both 0 where there is none.
+#[unsafe(no_mangle)]
+pub extern "C" fn tb_block(part: u8, block: u8) -> BlockNumbers
+    ensures { result ≡ block_returned part block }
+{
+    c_functions::tb_block(part, block)
+}
+
+// One bus cycle.
+#[unsafe(no_mangle)]
+pub extern "C" fn tb_cycle(
+    device: DeviceNumbers,
+    state: StateNumbers,
+    bus: BusNumbers,
+    array: &mut [u8],
+    residue: &[u8],
+) -> AnswerNumbers
+    ensures result { result ≡ cycled device state bus array.old residue.now }
+    ensures array_left { array.new ≡ array_cycled device state bus array.old residue.now }
+{
+    c_functions::tb_cycle(device, state, bus, array, residue)
+}
+
+// The first cycle of a load with the verify after it.
+#[unsafe(no_mangle)]
+pub extern "C" fn tb_start(
+    part: u8,
+    word: u8,
+    rp: u8,
+    wp: u8,
+    vpp: u32,
+    block: u8,
+    wanted: &[u8],
+    scratch: &[u8],
+) -> ResponseNumbers
+    ensures { result ≡ started part word rp wp vpp block wanted.now scratch.now }
+{
+    c_functions::tb_start(part, word, rp, wp, vpp, block, wanted, scratch)
+}
+
+// The first cycle of a load alone.
+#[unsafe(no_mangle)]
+pub extern "C" fn tb_load_start(
+    part: u8,
+    word: u8,
+    rp: u8,
+    wp: u8,
+    vpp: u32,
+    block: u8,
+    wanted: &[u8],
+    scratch: &[u8],
+) -> ResponseNumbers
+    ensures { result ≡ load_started part word rp wp vpp block wanted.now scratch.now }
+{
+    c_functions::tb_load_start(part, word, rp, wp, vpp, block, wanted, scratch)
+}
+
+// The first cycle of a verify alone.
+#[unsafe(no_mangle)]
+pub extern "C" fn tb_verify_start(
+    part: u8,
+    word: u8,
+    rp: u8,
+    wp: u8,
+    vpp: u32,
+    block: u8,
+    wanted: &[u8],
+    scratch: &[u8],
+) -> ResponseNumbers
+    ensures { result ≡ verify_started part word rp wp vpp block wanted.now scratch.now }
+{
+    c_functions::tb_verify_start(part, word, rp, wp, vpp, block, wanted, scratch)
+}
+
+// The same where the host keeps the record: it is taken out, moved on by value, and stored back.
+#[unsafe(no_mangle)]
+pub extern "C" fn tb_step(
+    loader: &mut LoaderNumbers,
+    value: u16,
+    wanted: &[u8],
+    scratch: &mut [u8],
+) -> SayingNumbers
+    ensures { (loader.new ≡ (stepped_of loader.old value wanted.now scratch.old).loader)
+        × (result ≡ (stepped_of loader.old value wanted.now scratch.old).turn)
+        × (scratch.new ≡ scratch_stepped loader.old value wanted.now scratch.old) }
+{
+    c_functions::tb_step(loader, value, wanted, scratch)
+}
+
+// A load of one block and the verify after it, against the model.
+#[unsafe(no_mangle)]
+pub extern "C" fn tb_run(
+    device: DeviceNumbers,
+    state: StateNumbers,
+    rp: u8,
+    wp: u8,
+    vpp: u32,
+    block: u8,
+    array: &mut [u8],
+    wanted: &[u8],
+    scratch: &mut [u8],
+) -> RanNumbers
+    ensures result { result ≡ run_of device state rp wp vpp block array.old wanted.now scratch.old }
+    ensures array_left { array.new
+        ≡ array_run device state rp wp vpp block array.old wanted.now scratch.old }
+    ensures scratch_left { scratch.new
+        ≡ scratch_run device state rp wp vpp block array.old wanted.now scratch.old }
+{
+    c_functions::tb_run(device, state, rp, wp, vpp, block, array, wanted, scratch)
+}
+
+// A load of one block alone, against the model.
+#[unsafe(no_mangle)]
+pub extern "C" fn tb_load_run(
+    device: DeviceNumbers,
+    state: StateNumbers,
+    rp: u8,
+    wp: u8,
+    vpp: u32,
+    block: u8,
+    array: &mut [u8],
+    wanted: &[u8],
+    scratch: &mut [u8],
+) -> RanNumbers
+    ensures result { result ≡ load_run_of device state rp wp vpp block array.old wanted.now scratch.old }
+    ensures array_left { array.new
+        ≡ array_load_run device state rp wp vpp block array.old wanted.now scratch.old }
+    ensures scratch_left { scratch.new
+        ≡ scratch_load_run device state rp wp vpp block array.old wanted.now scratch.old }
+{
+    c_functions::tb_load_run(device, state, rp, wp, vpp, block, array, wanted, scratch)
+}
+
+// A verify of one block alone, against the model.
+#[unsafe(no_mangle)]
+pub extern "C" fn tb_verify_run(
+    device: DeviceNumbers,
+    state: StateNumbers,
+    rp: u8,
+    wp: u8,
+    vpp: u32,
+    block: u8,
+    array: &mut [u8],
+    wanted: &[u8],
+    scratch: &mut [u8],
+) -> RanNumbers
+    ensures result { result
+        ≡ verify_run_of device state rp wp vpp block array.old wanted.now scratch.old }
+    ensures array_left { array.new
+        ≡ array_verify_run device state rp wp vpp block array.old wanted.now scratch.old }
+    ensures scratch_left { scratch.new
+        ≡ scratch_verify_run device state rp wp vpp block array.old wanted.now scratch.old }
+{
+    c_functions::tb_verify_run(device, state, rp, wp, vpp, block, array, wanted, scratch)
+}
+
+// A load of one block from a file and the verify after it, against the model.
+#[unsafe(no_mangle)]
+pub extern "C" fn tb_load(
+    device: DeviceNumbers,
+    state: StateNumbers,
+    rp: u8,
+    wp: u8,
+    vpp: u32,
+    block: u8,
+    letter: u8,
+    file: &[u8],
+    array: &mut [u8],
+    wanted: &mut [u8],
+    scratch: &mut [u8],
+) -> RanNumbers
+    ensures result { result
+        ≡ load_of device state rp wp vpp block file.now letter array.old wanted.old
+        scratch.old }
+    ensures array_left { array.new
+        ≡ array_load device state rp wp vpp block file.now letter array.old wanted.old
+        scratch.old }
+    ensures wanted_left { wanted.new
+        ≡ wanted_load device state rp wp vpp block file.now letter array.old wanted.old
+        scratch.old }
+    ensures scratch_left { scratch.new
+        ≡ scratch_load device state rp wp vpp block file.now letter array.old wanted.old
+        scratch.old }
+{
+    c_functions::tb_load(
+        device, state, rp, wp, vpp, block, letter, file, array, wanted, scratch,
+    )
+}
+
+// A verify of one block against a file, against the model.
+#[unsafe(no_mangle)]
+pub extern "C" fn tb_verify_file(
+    device: DeviceNumbers,
+    state: StateNumbers,
+    rp: u8,
+    wp: u8,
+    vpp: u32,
+    block: u8,
+    letter: u8,
+    file: &[u8],
+    array: &mut [u8],
+    wanted: &mut [u8],
+    scratch: &mut [u8],
+) -> RanNumbers
+    ensures result { result
+        ≡ verify_file_of device state rp wp vpp block file.now letter array.old wanted.old
+        scratch.old }
+    ensures array_left { array.new
+        ≡ array_verify_file device state rp wp vpp block file.now letter array.old wanted.old
+        scratch.old }
+    ensures wanted_left { wanted.new
+        ≡ wanted_verify_file device state rp wp vpp block file.now letter array.old wanted.old
+        scratch.old }
+    ensures scratch_left { scratch.new
+        ≡ scratch_verify_file device state rp wp vpp block file.now letter array.old wanted.old
+        scratch.old }
+{
+    c_functions::tb_verify_file(
+        device, state, rp, wp, vpp, block, letter, file, array, wanted, scratch,
+    )
+}
+
+// The writer of a load file.
+#[unsafe(no_mangle)]
+pub extern "C" fn tb_file_write(letter: u8, payload: &[u8], file: &mut [u8]) -> SizedNumbers
+    ensures result { result ≡ written_of letter payload.now file.old }
+    ensures file_left { file.new ≡ file_left letter payload.now file.old }
+{
+    c_functions::tb_file_write(letter, payload, file)
+}
+
+// The reader of a load file, for the letter asked.
+#[unsafe(no_mangle)]
+pub extern "C" fn tb_file_read(letter: u8, file: &[u8], payload: &mut [u8]) -> SizedNumbers
+    ensures result { result ≡ file_read file.now letter payload.old }
+    ensures payload_left { payload.new ≡ payload_left file.now letter payload.old }
+{
+    c_functions::tb_file_read(letter, file, payload)
+}
+
+// The check over the first 510 bytes, or over all where there are fewer.
+#[unsafe(no_mangle)]
+pub extern "C" fn tb_block_check(block: &[u8]) -> u16
+    ensures { result ≡ check_of (take 510 block.now) }
+{
+    c_functions::tb_block_check(block)
+}
+
+// A payload judged as a table of knots: 0, 40 or 41.
+#[unsafe(no_mangle)]
+pub extern "C" fn tb_table_judge(payload: &[u8]) -> u8
+    ensures { result ≡ table_number payload.now }
+{
+    c_functions::tb_table_judge(payload)
+}
+
+// The reading at a voltage by a payload, judged or not; or 40 or 41.
+#[unsafe(no_mangle)]
+pub extern "C" fn tb_table_reading(payload: &[u8], microvolts: i32) -> ReadingNumbers
+    ensures { result ≡ reading_returned payload.now microvolts }
+{
+    c_functions::tb_table_reading(payload, microvolts)
+}
+
+// The reading at a voltage straight from a file, for the letter asked; the payload goes into the front of room.
+#[unsafe(no_mangle)]
+pub extern "C" fn tb_file_reading(
+    letter: u8,
+    file: &[u8],
+    room: &mut [u8],
+    microvolts: i32,
+) -> ReadingNumbers
+    ensures result { result ≡ reading_read file.now letter room.old microvolts }
+    ensures room_left { room.new ≡ payload_left file.now letter room.old }
+{
+    c_functions::tb_file_reading(letter, file, room, microvolts)
+}
+
+// A report on wear, with one trace more.
+#[unsafe(no_mangle)]
+pub extern "C" fn tb_wear_add(
+    part: u8,
+    report: ReportNumbers,
+    from: u8,
+    wear: WearNumbers,
+) -> ReportedNumbers
+    ensures { result ≡ wear_added part report from wear }
+{
+    c_functions::tb_wear_add(part, report, from, wear)
+}
+
+// The report on the wear of many traces: the number of each trace's device, and seven counts for each.
+#[unsafe(no_mangle)]
+pub extern "C" fn tb_wear_report(part: u8, parts: &[u8], counts: &[u32]) -> ReportedNumbers
+    ensures { result ≡ wear_reported part parts.now counts.now }
+{
+    c_functions::tb_wear_report(part, parts, counts)
+}

@@ -1,0 +1,5 @@
+-- `recording_lines::silent` meets its contract.
+use Rattle.recording_lines.proofs.silent.Goals as goal
+
+pub returns : goal.returns
+returns c = simp (c.nth-5.ensures, c.nth-4.ensures, c.nth-3.ensures, c.nth-2.ensures, c.nth.ensures)

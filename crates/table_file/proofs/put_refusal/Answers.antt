@@ -1,0 +1,15 @@
+-- `table_file::put_refusal` meets its contract.
+use Rattle.text.specs.Writing.{bytes}
+use Rattle.text.proofs.Laying.{laid_first, laid_more}
+use Rattle.refusal_words.specs.Words.{refused_text}
+use Rattle.table_file.proofs.put_refusal.Goals as goal
+
+pub returns : goal.returns
+returns c =
+    let a = c.args in
+    let out = a.out.now in
+    let p = c.put_refused-a in
+    let q = c.put_text in
+    let f0 = laid_first out (refused_text a.n) p.new.out 0 p.result p.ensures.result p.ensures.out_left in
+    let f1 = laid_more out (refused_text a.n) (bytes "\n") p.new.out q.new.out 0 p.result q.result f0 q.ensures.result q.ensures.out_left in
+    record { result = f1.place; out_left = f1.bytes }
