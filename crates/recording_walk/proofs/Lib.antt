@@ -1,4 +1,3 @@
-pub mod LentAgain
 pub mod Equal
 pub mod Going
 pub mod Unique
