@@ -13,7 +13,7 @@ pub returns-then-out-g : goal.returns-then-out-g
 returns-then-out-g c =
     let a = c.args in
     let g = c.good_lines-g in
-    let both = short g.result a.array.now a.residue.now a.text.now a.out.now g.ensures c.if-out-g.true c.no_room.result c.no_room.ensures in record { result = both.0; array_left = both.1; out_left = both.2; out_used = both.3 }
+    let both = short g.result a.array.now a.residue.now a.text.now a.out.now g.ensures c.if-out-g.true c.no_room.result c.no_room.ensures in record { result = both.0; array_left = both.1.0; out_left = both.1.1.0; out_used = both.1.1.1 }
 
 pub record_lines-l-requires : goal.record_lines-l-requires
 record_lines-l-requires c =
@@ -40,4 +40,4 @@ returns c =
     let k = c.record_lines-l in
     let b = c.bad_behind-bad in
     let both = enough g.result a.array.now a.residue.now a.text.now a.out.now g.ensures c.if-out-g.false c.made_from.result b.result k.result k.new.array k.new.out c.made_from.ensures b.ensures
-    k.ensures.result k.ensures.array_left k.ensures.out_left k.auto.out in record { result = both.0; array_left = both.1; out_left = both.2; out_used = both.3 }
+    k.ensures.result k.ensures.array_left k.ensures.out_left k.auto.out in record { result = both.0; array_left = both.1.0; out_left = both.1.1.0; out_used = both.1.1.1 }
