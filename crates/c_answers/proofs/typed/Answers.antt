@@ -1,0 +1,12 @@
+use Rattle.c_cycle.proofs.Cycles.{cycle_given}
+use Rattle.c_answers.proofs.typed.Goals as goal
+
+pub returns : goal.returns
+returns c =
+    let a = c.args in
+    let xs = a.array.now in
+    let rs = a.residue.now in
+    let cycle = c.cycle-a in
+    let both = cycle_given a.device a.state a.bus xs rs _ _ _ _ _ _ c.device_in-d.ensures
+    c.state_in-s.ensures c.cycle_in-c.ensures
+    cycle.ensures.result cycle.ensures.array_left c.answer_out.ensures in record { result = both.0; array_left = both.1 }
