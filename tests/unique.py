@@ -163,7 +163,8 @@ def as_list(term):
 def main():
     wrong = pairs = functions = 0
     for crate in sorted(ROOT.iterdir()):
-        if not (crate / "src/lib.rt").exists():
+        # streams reaches the system, and no contract can say what that gives or takes
+        if not (crate / "src/lib.rt").exists() or crate.name == "streams":
             continue
         below = ROOT / crate.name[:-2]
         stated = list(theorems((below if crate.name.endswith("_c") and below.exists() else crate) / "proofs/Unique.antt"))

@@ -9,47 +9,26 @@ mod tables;
 mod traces;
 mod wears;
 
-use check::same;
-
-fn main() {
+fn main(rt: HostRuntime) {
+    let err = rt.stderr();
     let mut name = [0u8; 16];
-    let n = os::arg(1, &mut name);
+    let n = streams::arg(&rt, 1, &mut name);
     let word: &[u8] = &name[..n];
-    if same(word, b"trace") {
-        return traces::trace();
+    match word {
+        b"trace" => traces::trace(&rt, &err),
+        b"table" => traces::table(&rt, &err),
+        b"script" => traces::script(&rt, &err),
+        b"record" => recordings::record(&rt, &err),
+        b"recording" => recordings::recording(&rt, &err),
+        b"read" => tables::read(&rt, &err),
+        b"write" => tables::write(&rt, &err),
+        b"print" => tables::print(&rt, &err),
+        b"verify" => parts::verify(&rt, &err),
+        b"load" => parts::load(&rt, &err),
+        b"store" => parts::store(&rt, &err),
+        b"wear" => wears::wear(&rt, &err),
+        _ => {
+            streams::write_all(&err, b"usage: desk WORD ARGUMENT..\n");
+        }
     }
-    if same(word, b"table") {
-        return traces::table();
-    }
-    if same(word, b"script") {
-        return traces::script();
-    }
-    if same(word, b"record") {
-        return recordings::record();
-    }
-    if same(word, b"recording") {
-        return recordings::recording();
-    }
-    if same(word, b"read") {
-        return tables::read();
-    }
-    if same(word, b"write") {
-        return tables::write();
-    }
-    if same(word, b"print") {
-        return tables::print();
-    }
-    if same(word, b"verify") {
-        return parts::verify();
-    }
-    if same(word, b"load") {
-        return parts::load();
-    }
-    if same(word, b"store") {
-        return parts::store();
-    }
-    if same(word, b"wear") {
-        return wears::wear();
-    }
-    io::write_all(2, b"usage: desk WORD ARGUMENT..\n");
 }

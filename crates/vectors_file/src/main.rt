@@ -32,38 +32,41 @@ fn seal(file: &mut [u8], k: usize) {
 }
 
 // The number of a refusal, or a length.
-fn tell(mark: &[u8], n: u64) {
-    io::write_all(1, mark);
-    io::print_decimal(1, n);
+fn tell(rt: &impl Print, mark: &[u8], n: u64) {
+    streams::write_all(rt, mark);
+    streams::print_decimal(rt, n);
 }
 
 // The answer of the writer, of the judgement, of the reader.
-fn tell_written(w: file_codec::Written) {
+fn tell_written(rt: &impl Print, w: file_codec::Written) {
     match w {
-        file_codec::Written::Wrote(n) => tell(b"W=", n as u64),
-        file_codec::Written::Refused(n) => tell(b"W!", n as u64),
+        file_codec::Written::Wrote(n) => tell(rt, b"W=", n as u64),
+        file_codec::Written::Refused(n) => tell(rt, b"W!", n as u64),
     }
 }
 
-fn tell_judged(j: file_codec::Judged) {
+fn tell_judged(rt: &impl Print, j: file_codec::Judged) {
     match j {
-        file_codec::Judged::Sound(n) => tell(b" J=", n as u64),
-        file_codec::Judged::Refused(n) => tell(b" J!", n as u64),
+        file_codec::Judged::Sound(n) => tell(rt, b" J=", n as u64),
+        file_codec::Judged::Refused(n) => tell(rt, b" J!", n as u64),
     }
 }
 
-fn tell_read(r: file_codec::ReadBack) {
+fn tell_read(rt: &impl Print, r: file_codec::ReadBack) {
     match r {
-        file_codec::ReadBack::Gave(n) => tell(b" R=", n as u64),
-        file_codec::ReadBack::Refused(n) => tell(b" R!", n as u64),
+        file_codec::ReadBack::Gave(n) => tell(rt, b" R=", n as u64),
+        file_codec::ReadBack::Refused(n) => tell(rt, b" R!", n as u64),
     }
 }
 
 // The file is written.
-fn make(case: &[u8], payload: &[u8], file: &mut [u8]) {
+fn make(rt: &impl Print, case: &[u8], payload: &[u8], file: &mut [u8]) {
     let size = common::least(field(case, 1), payload.len());
     let room = common::least(field(case, 2), file.len());
-    tell_written(file_writer::write(byte(case, 0), &payload[0..size], &mut file[0..room]));
+    tell_written(
+        rt,
+        file_writer::write(byte(case, 0), &payload[0..size], &mut file[0..room]),
+    );
 }
 
 // Two bytes of it are changed, as the numbers from k on say.
@@ -83,56 +86,59 @@ fn spoil(case: &[u8], file: &mut [u8]) {
 }
 
 // The file is judged and read.
-fn take(case: &[u8], file: &[u8], back: &mut [u8]) {
+fn take(rt: &impl Print, case: &[u8], file: &[u8], back: &mut [u8]) {
     let size = common::least(field(case, 13), file.len());
     let asked = byte(case, 14);
     let room = common::least(field(case, 15), back.len());
-    tell_judged(file_codec::judge(&file[0..size], asked));
-    tell_read(file_codec::read(&file[0..size], asked, &mut back[0..room]));
+    tell_judged(rt, file_codec::judge(&file[0..size], asked));
+    tell_read(
+        rt,
+        file_codec::read(&file[0..size], asked, &mut back[0..room]),
+    );
 }
 
 // One case. The file's buffer holds the byte of number 17 before, the payload's 5AH.
-fn on(case: &[u8], payload: &[u8], file: &mut [u8], back: &mut [u8]) {
+fn on(rt: &impl Print, case: &[u8], payload: &[u8], file: &mut [u8], back: &mut [u8]) {
     common::fill(file, byte(case, 17));
     common::fill(back, 90);
-    make(case, payload, file);
+    make(rt, case, payload, file);
     spoil(case, file);
-    take(case, file, back);
-    tell(b" F ", vectors_text::digest(file));
-    tell(b" B ", vectors_text::digest(back));
-    io::write_all(1, b"\n");
+    take(rt, case, file, back);
+    tell(rt, b" F ", vectors_text::digest(file));
+    tell(rt, b" B ", vectors_text::digest(back));
+    streams::write_all(rt, b"\n");
 }
 
 // One case. Number 16 says whether the buffers are those of a short file, 5,200 and 4,200 bytes, or of a long one, 115,300 and 113,600.
-fn run(case: &[u8], payload: &[u8], file: &mut [u8], back: &mut [u8]) {
+fn run(rt: &impl Print, case: &[u8], payload: &[u8], file: &mut [u8], back: &mut [u8]) {
     if field(case, 16) == 0 {
         let n = common::least(5200, file.len());
         let m = common::least(4200, back.len());
-        return on(case, payload, &mut file[0..n], &mut back[0..m]);
+        return on(rt, case, payload, &mut file[0..n], &mut back[0..m]);
     }
     let n = common::least(115300, file.len());
     let m = common::least(113600, back.len());
-    on(case, payload, &mut file[0..n], &mut back[0..m])
+    on(rt, case, payload, &mut file[0..n], &mut back[0..m])
 }
 
 // All cases of a text.
-fn run_all(text: &[u8], payload: &[u8], file: &mut [u8], back: &mut [u8]) {
+fn run_all(rt: &impl Print, text: &[u8], payload: &[u8], file: &mut [u8], back: &mut [u8]) {
     let n = text.len() / 126;
     let mut i = 0;
     while i < n {
         let from = 126 * i;
         let to = from + 126;
-        run(&text[from..to], payload, file, back);
+        run(rt, &text[from..to], payload, file, back);
         i += 1;
     }
 }
 
-fn main() {
+fn main(rt: HostRuntime) {
     let mut text = vectors_text::blank();
     let mut payload = vectors_text::blank();
     let mut file = vectors_text::blank();
     let mut back = vectors_text::blank();
     vectors_text::pattern(&mut payload, 250, 3, 7);
-    let n = io::read_full(0, &mut text);
-    run_all(&text[..n], &payload, &mut file, &mut back);
+    let n = streams::read_input(&rt, &mut text);
+    run_all(&rt, &text[..n], &payload, &mut file, &mut back);
 }

@@ -164,17 +164,17 @@ fn loaded(
 }
 
 // A byte in hex.
-fn tell_byte(x: u8) {
+fn tell_byte(rt: &impl Print, x: u8) {
     let mut text = [0u8; 2];
     text::hex(&mut text, x as u64);
-    io::write_all(1, b" ");
-    io::write_all(1, &text);
+    streams::write_all(rt, b" ");
+    streams::write_all(rt, &text);
 }
 
 // A mark and a number.
-fn tell(mark: &[u8], n: u64) {
-    io::write_all(1, mark);
-    io::print_decimal(1, n);
+fn tell(rt: &impl Print, mark: &[u8], n: u64) {
+    streams::write_all(rt, mark);
+    streams::print_decimal(rt, n);
 }
 
 // The last byte, 0 where there is none.
@@ -187,63 +187,63 @@ fn last_of(s: &[u8]) -> u8 {
 }
 
 // What a slice holds: a digest, its first byte and its last.
-fn tell_slice(mark: &[u8], s: &[u8]) {
-    tell(mark, vectors_text::digest(s));
-    tell_byte(common::nth(s, 0));
-    tell_byte(last_of(s));
+fn tell_slice(rt: &impl Print, mark: &[u8], s: &[u8]) {
+    tell(rt, mark, vectors_text::digest(s));
+    tell_byte(rt, common::nth(s, 0));
+    tell_byte(rt, last_of(s));
 }
 
 // Status, mode and phase.
-fn tell_state(s: State) {
+fn tell_state(rt: &impl Print, s: State) {
     let mode = s.mode;
     let phase = s.phase;
-    io::write_all(1, b" S");
-    tell_byte(s.status);
+    streams::write_all(rt, b" S");
+    tell_byte(rt, s.status);
     let m = vectors_states::mode_letter(mode);
     let p = vectors_states::phase_letter(phase);
     let text = [b' ', m, b' ', p];
-    io::write_all(1, &text);
+    streams::write_all(rt, &text);
 }
 
 // The name of a case, the end, its address, the count and the state.
-fn tell_end(case: &[u8], x: Ran) {
+fn tell_end(rt: &impl Print, case: &[u8], x: Ran) {
     let state = x.state;
     let n = common::least(24, case.len());
-    io::write_all(1, &case[0..n]);
-    tell(b"E ", x.end as u64);
-    tell(b" A ", x.address as u64);
-    tell(b" N ", x.count);
-    tell_state(state);
+    streams::write_all(rt, &case[0..n]);
+    tell(rt, b"E ", x.end as u64);
+    tell(rt, b" A ", x.address as u64);
+    tell(rt, b" N ", x.count);
+    tell_state(rt, state);
 }
 
 // The three slices after the load.
-fn tell_slices(array: &[u8], wanted: &[u8], scratch: &[u8]) {
-    tell_slice(b" a ", array);
-    tell_slice(b" w ", wanted);
-    tell_slice(b" s ", scratch);
+fn tell_slices(rt: &impl Print, array: &[u8], wanted: &[u8], scratch: &[u8]) {
+    tell_slice(rt, b" a ", array);
+    tell_slice(rt, b" w ", wanted);
+    tell_slice(rt, b" s ", scratch);
 }
 
 // The erases begun, block by block.
-fn tell_wear(w: Wear) {
-    tell(b" ", w.block0 as u64);
-    tell(b" ", w.block1 as u64);
-    tell(b" ", w.block2 as u64);
-    tell(b" ", w.block3 as u64);
-    tell(b" ", w.block4 as u64);
-    tell(b" ", w.block5 as u64);
-    tell(b" ", w.block6 as u64);
+fn tell_wear(rt: &impl Print, w: Wear) {
+    tell(rt, b" ", w.block0 as u64);
+    tell(rt, b" ", w.block1 as u64);
+    tell(rt, b" ", w.block2 as u64);
+    tell(rt, b" ", w.block3 as u64);
+    tell(rt, b" ", w.block4 as u64);
+    tell(rt, b" ", w.block5 as u64);
+    tell(rt, b" ", w.block6 as u64);
 }
 
 // The counts before the load and after it.
-fn tell_counts(case: &[u8], x: Ran) {
+fn tell_counts(rt: &impl Print, case: &[u8], x: Ran) {
     let before = state_of(case);
     let after = x.state;
     let had = before.wear;
     let has = after.wear;
-    tell_wear(had);
-    io::write_all(1, b" >");
-    tell_wear(has);
-    io::write_all(1, b"\n");
+    tell_wear(rt, had);
+    streams::write_all(rt, b" >");
+    tell_wear(rt, has);
+    streams::write_all(rt, b"\n");
 }
 
 // The three slices are prepared, as far as they are lent.
@@ -254,16 +254,23 @@ fn ready(case: &[u8], array: &mut [u8], wanted: &mut [u8], scratch: &mut [u8], f
 }
 
 // The load on what is lent, and its line.
-fn run_case(case: &[u8], array: &mut [u8], wanted: &mut [u8], scratch: &mut [u8], file: &[u8]) {
+fn run_case(
+    rt: &impl Print,
+    case: &[u8],
+    array: &mut [u8],
+    wanted: &mut [u8],
+    scratch: &mut [u8],
+    file: &[u8],
+) {
     ready(case, array, wanted, scratch, file);
     let x = loaded(case, array, wanted, scratch, file);
-    tell_end(case, x);
-    tell_slices(array, wanted, scratch);
-    tell_counts(case, x);
+    tell_end(rt, case, x);
+    tell_slices(rt, array, wanted, scratch);
+    tell_counts(rt, case, x);
 }
 
 // As much of each slice is lent as the case says.
-fn with_slices(case: &[u8], file: &[u8]) {
+fn with_slices(rt: &impl Print, case: &[u8], file: &[u8]) {
     let mut array = vectors_states::vast();
     let mut wanted = vectors_text::blank();
     let mut scratch = vectors_text::blank();
@@ -271,6 +278,7 @@ fn with_slices(case: &[u8], file: &[u8]) {
     let m = lent(case, 28, 131073);
     let k = lent(case, 29, 131073);
     run_case(
+        rt,
         case,
         &mut array[0..n],
         &mut wanted[0..m],
@@ -280,27 +288,27 @@ fn with_slices(case: &[u8], file: &[u8]) {
 }
 
 // One case: the file is made, and as much of it is used as the case says.
-fn one(case: &[u8]) {
+fn one(rt: &impl Print, case: &[u8]) {
     let mut file = [0u8; 115300];
     write(case, &mut file);
     let n = lent(case, 14, 115300);
-    with_slices(case, &file[0..n]);
+    with_slices(rt, case, &file[0..n]);
 }
 
 // All cases of a text.
-fn run_all(text: &[u8]) {
+fn run_all(rt: &impl Print, text: &[u8]) {
     let n = text.len() / 423;
     let mut i = 0;
     while i < n {
         let from = 423 * i;
         let to = from + 423;
-        one(&text[from..to]);
+        one(rt, &text[from..to]);
         i += 1;
     }
 }
 
-fn main() {
+fn main(rt: HostRuntime) {
     let mut text = vectors_states::vast();
-    let n = io::read_full(0, &mut text);
-    run_all(&text[..n]);
+    let n = streams::read_input(&rt, &mut text);
+    run_all(&rt, &text[..n]);
 }

@@ -94,127 +94,127 @@ fn after_line(b: Bench, state: State) -> Bench {
 }
 
 // A number in as many decimal digits as a slice has, and a space.
-fn print_decimal(text: &mut [u8], x: u64) {
+fn print_decimal(rt: &impl Print, text: &mut [u8], x: u64) {
     text::decimal(text, x);
-    io::write_all(1, text);
-    io::write_all(1, b" ");
+    streams::write_all(rt, text);
+    streams::write_all(rt, b" ");
 }
 
 // A number in as many hex digits as a slice has, and what comes after it.
-fn print_hex(text: &mut [u8], x: u64, end: &[u8]) {
+fn print_hex(rt: &impl Print, text: &mut [u8], x: u64, end: &[u8]) {
     text::hex(text, x);
-    io::write_all(1, text);
-    io::write_all(1, end);
+    streams::write_all(rt, text);
+    streams::write_all(rt, end);
 }
 
-fn print_byte(x: u8) {
+fn print_byte(rt: &impl Print, x: u8) {
     let mut text = [0u8; 2];
-    print_hex(&mut text, x as u64, b" ");
+    print_hex(rt, &mut text, x as u64, b" ");
 }
 
 // A byte or a word, in four digits.
-fn print_unit(x: u16) {
+fn print_unit(rt: &impl Print, x: u16) {
     let mut text = [0u8; 4];
-    print_hex(&mut text, x as u64, b" ");
+    print_hex(rt, &mut text, x as u64, b" ");
 }
 
 // The group's letters and the line's number.
-fn print_label(g: Group, line: u32) {
+fn print_label(rt: &impl Print, g: Group, line: u32) {
     let letters = [g.a, g.b, g.c, g.d, b' '];
     let mut text = [0u8; 4];
-    io::write_all(1, &letters);
-    print_decimal(&mut text, line as u64);
+    streams::write_all(rt, &letters);
+    print_decimal(rt, &mut text, line as u64);
 }
 
 // What was seen.
-fn print_seen(seen: Seen) {
+fn print_seen(rt: &impl Print, seen: Seen) {
     match seen {
         Seen::NoData => {
-            io::write_all(1, b"N ---- ");
+            streams::write_all(rt, b"N ---- ");
         }
         Seen::Data(v) => {
-            io::write_all(1, b"D ");
-            print_unit(v);
+            streams::write_all(rt, b"D ");
+            print_unit(rt, v);
         }
         Seen::Refused(n) => {
             let mut text = [0u8; 2];
-            io::write_all(1, b"X ");
-            print_decimal(&mut text, n as u64);
+            streams::write_all(rt, b"X ");
+            print_decimal(rt, &mut text, n as u64);
         }
     }
 }
 
 // Status, mode and phase, and the data or the count of the phase, where it has one.
-fn print_state(s: State) {
+fn print_state(rt: &impl Print, s: State) {
     let mode = s.mode;
     let phase = s.phase;
     let m = vectors_states::mode_letter(mode);
     let p = vectors_states::phase_letter(phase);
     let text = [m, b' ', p];
-    print_byte(s.status);
-    io::write_all(1, &text);
+    print_byte(rt, s.status);
+    streams::write_all(rt, &text);
     if let Phase::Programming(v) = phase {
-        print_unit(v);
+        print_unit(rt, v);
         return;
     }
     if let Phase::Suspending(n) = phase {
-        print_unit(n as u16);
+        print_unit(rt, n as u16);
         return;
     }
-    io::write_all(1, b"---- ");
+    streams::write_all(rt, b"---- ");
 }
 
 // Cycles left, address and digest.
-fn print_numbers(left: u16, address: u32, sum: u64) {
+fn print_numbers(rt: &impl Print, left: u16, address: u32, sum: u64) {
     let mut five = [0u8; 5];
     let mut eight = [0u8; 8];
     let mut four = [0u8; 4];
-    print_decimal(&mut five, left as u64);
-    print_hex(&mut eight, address as u64, b" ");
-    print_hex(&mut four, sum, b"");
+    print_decimal(rt, &mut five, left as u64);
+    print_hex(rt, &mut eight, address as u64, b" ");
+    print_hex(rt, &mut four, sum, b"");
 }
 
 // A space and a count of erases.
-fn print_count(n: u32) {
-    io::write_all(1, b" ");
-    io::print_decimal(1, n as u64);
+fn print_count(rt: &impl Print, n: u32) {
+    streams::write_all(rt, b" ");
+    streams::print_decimal(rt, n as u64);
 }
 
 // The erases begun, block by block, and the end of the line.
-fn print_wear(w: Wear) {
-    print_count(w.block0);
-    print_count(w.block1);
-    print_count(w.block2);
-    print_count(w.block3);
-    print_count(w.block4);
-    print_count(w.block5);
-    print_count(w.block6);
-    io::write_all(1, b"\n");
+fn print_wear(rt: &impl Print, w: Wear) {
+    print_count(rt, w.block0);
+    print_count(rt, w.block1);
+    print_count(rt, w.block2);
+    print_count(rt, w.block3);
+    print_count(rt, w.block4);
+    print_count(rt, w.block5);
+    print_count(rt, w.block6);
+    streams::write_all(rt, b"\n");
 }
 
 // One whole line.
-fn print_line(b: Bench, seen: Seen, sum: u64) {
+fn print_line(rt: &impl Print, b: Bench, seen: Seen, sum: u64) {
     let state = b.state;
     let wear = state.wear;
     let group = b.group;
-    print_label(group, b.lines);
-    print_seen(seen);
-    print_state(state);
-    print_numbers(state.left, state.address, sum);
-    print_wear(wear);
+    print_label(rt, group, b.lines);
+    print_seen(rt, seen);
+    print_state(rt, state);
+    print_numbers(rt, state.left, state.address, sum);
+    print_wear(rt, wear);
 }
 
 // Prints a line about a state and what was seen, and gives the bench after it.
-fn show(b: Bench, state: State, seen: Seen, array: &[u8]) -> Bench {
+fn show(rt: &impl Print, b: Bench, state: State, seen: Seen, array: &[u8]) -> Bench {
     let n = common::least(b.array, array.len());
     let sum = vectors_text::digest(&array[0..n]);
     let after = after_line(b, state);
-    print_line(after, seen, sum);
+    print_line(rt, after, seen, sum);
     after
 }
 
 // One bus cycle and its line.
-fn run(b: Bench, c: Cycle, array: &mut [u8], residue: &[u8]) -> Bench {
+fn run(rt: &impl Print, b: Bench, c: Cycle, array: &mut [u8], residue: &[u8]) -> Bench {
     let n = common::least(b.array, array.len());
     let m = common::least(b.residue, residue.len());
     let device = b.device;
@@ -222,7 +222,7 @@ fn run(b: Bench, c: Cycle, array: &mut [u8], residue: &[u8]) -> Bench {
     let x = model::cycle(device, before, c, &mut array[0..n], &residue[0..m]);
     let seen = x.seen;
     let state = x.state;
-    show(b, state, seen, array)
+    show(rt, b, state, seen, array)
 }
 
 // Fills what is lent, as a row says.
@@ -279,19 +279,19 @@ fn set(row: &[u8], op: u8, b: Bench) -> Bench {
 }
 
 // The rows that print a line: those of a bus cycle, and those of a device that is fresh or was reset.
-fn act(row: &[u8], op: u8, b: Bench, array: &mut [u8], residue: &[u8]) -> Bench {
+fn act(rt: &impl Print, row: &[u8], op: u8, b: Bench, array: &mut [u8], residue: &[u8]) -> Bench {
     let state = b.state;
     if (op == b'R') | (op == b'W') | (op == b'I') {
-        return run(b, cycle_of(row, op), array, residue);
+        return run(rt, b, cycle_of(row, op), array, residue);
     }
     if (op == b'F') | (op == b'Z') {
-        return show(b, state, Seen::NoData, array);
+        return show(rt, b, state, Seen::NoData, array);
     }
     b
 }
 
 // One row: first what it sets, then what it prints.
-fn take_row(row: &[u8], b: Bench, array: &mut [u8], residue: &mut [u8]) -> Bench {
+fn take_row(rt: &impl Print, row: &[u8], b: Bench, array: &mut [u8], residue: &mut [u8]) -> Bench {
     let op = common::nth(row, 0);
     if op == b'A' {
         sow_part(array, b.array, row);
@@ -301,23 +301,23 @@ fn take_row(row: &[u8], b: Bench, array: &mut [u8], residue: &mut [u8]) -> Bench
         sow_part(residue, b.residue, row);
         return b;
     }
-    act(row, op, set(row, op, b), array, residue)
+    act(rt, row, op, set(row, op, b), array, residue)
 }
 
 // Every row in its order.
-fn all(text: &[u8], array: &mut [u8], residue: &mut [u8]) {
+fn all(rt: &impl Print, text: &[u8], array: &mut [u8], residue: &mut [u8]) {
     let mut b = bare();
     let mut at = 0;
     while at < text.len() {
-        b = take_row(&text[at..], b, array, residue);
+        b = take_row(rt, &text[at..], b, array, residue);
         at = vectors_text::next_row(text, at);
     }
 }
 
-fn main() {
+fn main(rt: HostRuntime) {
     let mut text = vectors_states::vast();
     let mut array = vectors_states::vast();
     let mut residue = vectors_text::blank();
-    let n = io::read_full(0, &mut text);
-    all(&text[..n], &mut array, &mut residue);
+    let n = streams::read_input(&rt, &mut text);
+    all(&rt, &text[..n], &mut array, &mut residue);
 }

@@ -32,35 +32,35 @@ fn signed(u: u32) -> i32 {
 }
 
 // A letter, a number in hex, a newline.
-fn tell_bits(mark: &[u8], t: f64) {
-    io::write_all(1, mark);
+fn tell_bits(rt: &impl Print, mark: &[u8], t: f64) {
+    streams::write_all(rt, mark);
     if t != t {
-        io::write_all(1, b"none\n");
+        streams::write_all(rt, b"none\n");
         return;
     }
-    io::print_hex(1, f64::to_bits(t), 16);
-    io::write_all(1, b"\n");
+    streams::print_hex(rt, f64::to_bits(t), 16);
+    streams::write_all(rt, b"\n");
 }
 
-fn tell_number(mark: &[u8], n: u64) {
-    io::write_all(1, mark);
-    io::print_decimal(1, n);
-    io::write_all(1, b"\n");
+fn tell_number(rt: &impl Print, mark: &[u8], n: u64) {
+    streams::write_all(rt, mark);
+    streams::print_decimal(rt, n);
+    streams::write_all(rt, b"\n");
 }
 
 // A reading: its case and the bits of its temperature.
-fn tell_reading(r: Reading) {
+fn tell_reading(rt: &impl Print, r: Reading) {
     match r {
-        Reading::Temperature(t) => tell_bits(b"T ", t),
-        Reading::Below(t) => tell_bits(b"B ", t),
-        Reading::Above(t) => tell_bits(b"A ", t),
+        Reading::Temperature(t) => tell_bits(rt, b"T ", t),
+        Reading::Below(t) => tell_bits(rt, b"B ", t),
+        Reading::Above(t) => tell_bits(rt, b"A ", t),
     }
 }
 
-fn tell_answer(a: ReadingAnswer) {
+fn tell_answer(rt: &impl Print, a: ReadingAnswer) {
     match a {
-        ReadingAnswer::Read(r) => tell_reading(r),
-        ReadingAnswer::Refused(n) => tell_number(b"! ", n as u64),
+        ReadingAnswer::Read(r) => tell_reading(rt, r),
+        ReadingAnswer::Refused(n) => tell_number(rt, b"! ", n as u64),
     }
 }
 
@@ -98,14 +98,14 @@ fn forge(file: &mut [u8], at: usize, b: u8) {
 }
 
 // The file of the payload; its length.
-fn write_file(letter: u8, payload: &[u8], file: &mut [u8]) -> usize {
+fn write_file(rt: &impl Print, letter: u8, payload: &[u8], file: &mut [u8]) -> usize {
     match file_writer::write(letter, payload, file) {
         Written::Wrote(n) => {
-            tell_number(b"W ", n as u64);
+            tell_number(rt, b"W ", n as u64);
             n
         }
         Written::Refused(n) => {
-            tell_number(b"! ", n as u64);
+            tell_number(rt, b"! ", n as u64);
             0
         }
     }
@@ -155,9 +155,9 @@ fn length_row(row: &[u8], kind: u8, s: Sizes) -> Sizes {
 }
 
 // The payload is written.
-fn write_row(row: &[u8], s: Sizes, payload: &[u8], file: &mut [u8]) -> Sizes {
+fn write_row(rt: &impl Print, row: &[u8], s: Sizes, payload: &[u8], file: &mut [u8]) -> Sizes {
     let size = common::least(s.payload, payload.len());
-    let n = write_file((first(row) % 256) as u8, &payload[0..size], file);
+    let n = write_file(rt, (first(row) % 256) as u8, &payload[0..size], file);
     Sizes {
         payload: s.payload,
         file: n,
@@ -166,47 +166,60 @@ fn write_row(row: &[u8], s: Sizes, payload: &[u8], file: &mut [u8]) -> Sizes {
 }
 
 // Questions about the payload.
-fn ask_payload(row: &[u8], kind: u8, payload: &[u8]) {
+fn ask_payload(rt: &impl Print, row: &[u8], kind: u8, payload: &[u8]) {
     let x = signed(first(row));
     if kind == b'R' {
-        tell_answer(reading::reading_at(payload, x));
+        tell_answer(rt, reading::reading_at(payload, x));
         return;
     }
     if kind == b'S' {
-        tell_number(b"S ", reading_table::seek(payload, x) as u64);
+        tell_number(rt, b"S ", reading_table::seek(payload, x) as u64);
         return;
     }
-    tell_number(b"J ", reading_table::judge_table(payload) as u64);
+    tell_number(rt, b"J ", reading_table::judge_table(payload) as u64);
 }
 
 // The question about the file, and a digest of the room that it leaves.
-fn ask_file(row: &[u8], file: &[u8], room: &mut [u8]) {
+fn ask_file(rt: &impl Print, row: &[u8], file: &[u8], room: &mut [u8]) {
     common::fill(room, 90);
-    tell_answer(reading::reading_from_file(
-        file,
-        (second(row) % 256) as u8,
-        room,
-        signed(first(row)),
-    ));
-    tell_number(b"D ", vectors_text::digest(room));
+    tell_answer(
+        rt,
+        reading::reading_from_file(file, (second(row) % 256) as u8, room, signed(first(row))),
+    );
+    tell_number(rt, b"D ", vectors_text::digest(room));
 }
 
 // One row that asks.
-fn ask_row(row: &[u8], kind: u8, s: Sizes, payload: &[u8], file: &[u8], room: &mut [u8]) {
+fn ask_row(
+    rt: &impl Print,
+    row: &[u8],
+    kind: u8,
+    s: Sizes,
+    payload: &[u8],
+    file: &[u8],
+    room: &mut [u8],
+) {
     if kind == b'F' {
         let n = common::least(s.file, file.len());
         let m = common::least(s.room, room.len());
-        ask_file(row, &file[0..n], &mut room[0..m]);
+        ask_file(rt, row, &file[0..n], &mut room[0..m]);
         return;
     }
     let n = common::least(s.payload, payload.len());
-    ask_payload(row, kind, &payload[0..n]);
+    ask_payload(rt, row, kind, &payload[0..n]);
 }
 
 // A row that changes something.
-fn change_row(row: &[u8], kind: u8, s: Sizes, payload: &mut [u8], file: &mut [u8]) -> Sizes {
+fn change_row(
+    rt: &impl Print,
+    row: &[u8],
+    kind: u8,
+    s: Sizes,
+    payload: &mut [u8],
+    file: &mut [u8],
+) -> Sizes {
     if kind == b'W' {
-        return write_row(row, s, payload, file);
+        return write_row(rt, row, s, payload, file);
     }
     if kind == b'C' {
         forge(file, first(row) as usize, (second(row) % 256) as u8);
@@ -235,17 +248,24 @@ fn asks(kind: u8) -> bool {
 }
 
 // One row.
-fn run(row: &[u8], s: Sizes, payload: &mut [u8], file: &mut [u8], room: &mut [u8]) -> Sizes {
+fn run(
+    rt: &impl Print,
+    row: &[u8],
+    s: Sizes,
+    payload: &mut [u8],
+    file: &mut [u8],
+    room: &mut [u8],
+) -> Sizes {
     let kind = common::nth(row, 0);
     if asks(kind) {
-        ask_row(row, kind, s, payload, file, room);
+        ask_row(rt, row, kind, s, payload, file, room);
         return s;
     }
-    change_row(row, kind, s, payload, file)
+    change_row(rt, row, kind, s, payload, file)
 }
 
 // All rows of a text.
-fn run_all(text: &[u8], payload: &mut [u8], file: &mut [u8], room: &mut [u8]) {
+fn run_all(rt: &impl Print, text: &[u8], payload: &mut [u8], file: &mut [u8], room: &mut [u8]) {
     let n = text.len() / 16;
     let mut s = Sizes {
         payload: 0,
@@ -256,16 +276,16 @@ fn run_all(text: &[u8], payload: &mut [u8], file: &mut [u8], room: &mut [u8]) {
     while i < n {
         let from = 16 * i;
         let to = from + 16;
-        s = run(&text[from..to], s, payload, file, room);
+        s = run(rt, &text[from..to], s, payload, file, room);
         i += 1;
     }
 }
 
-fn main() {
-    let mut text = io::large_buffer();
-    let mut payload = io::large_buffer();
-    let mut file = io::large_buffer();
-    let mut room = io::large_buffer();
-    let n = io::read_full(0, &mut text);
-    run_all(&text[..n], &mut payload, &mut file, &mut room);
+fn main(rt: HostRuntime) {
+    let mut text = streams::large_buffer();
+    let mut payload = streams::large_buffer();
+    let mut file = streams::large_buffer();
+    let mut room = streams::large_buffer();
+    let n = streams::read_input(&rt, &mut text);
+    run_all(&rt, &text[..n], &mut payload, &mut file, &mut room);
 }

@@ -114,116 +114,116 @@ fn with_walk(b: Bench, walk: Walk, lines: u32) -> Bench {
 }
 
 // A number in as many decimal digits as a slice has, and a space.
-fn print_decimal(text: &mut [u8], x: u64) {
+fn print_decimal(rt: &impl Print, text: &mut [u8], x: u64) {
     text::decimal(text, x);
-    io::write_all(1, text);
-    io::write_all(1, b" ");
+    streams::write_all(rt, text);
+    streams::write_all(rt, b" ");
 }
 
 // A number in as many hex digits as a slice has, and what comes after it.
-fn print_hex(text: &mut [u8], x: u64, end: &[u8]) {
+fn print_hex(rt: &impl Print, text: &mut [u8], x: u64, end: &[u8]) {
     text::hex(text, x);
-    io::write_all(1, text);
-    io::write_all(1, end);
+    streams::write_all(rt, text);
+    streams::write_all(rt, end);
 }
 
-fn print_byte(x: u8) {
+fn print_byte(rt: &impl Print, x: u8) {
     let mut text = [0u8; 2];
-    print_hex(&mut text, x as u64, b" ");
+    print_hex(rt, &mut text, x as u64, b" ");
 }
 
 // A byte or a word, in four digits.
-fn print_unit(x: u16) {
+fn print_unit(rt: &impl Print, x: u16) {
     let mut text = [0u8; 4];
-    print_hex(&mut text, x as u64, b" ");
+    print_hex(rt, &mut text, x as u64, b" ");
 }
 
 // The group's letters and the line's number.
-fn print_label(g: Group, line: u32) {
+fn print_label(rt: &impl Print, g: Group, line: u32) {
     let letters = [g.a, g.b, g.c, g.d, b' '];
     let mut text = [0u8; 4];
-    io::write_all(1, &letters);
-    print_decimal(&mut text, line as u64);
+    streams::write_all(rt, &letters);
+    print_decimal(rt, &mut text, line as u64);
 }
 
 // The verdict: refused and the number, accepted, or at fault and the place.
-fn print_verdict(c: Checked) {
+fn print_verdict(rt: &impl Print, c: Checked) {
     let mut text = [0u8; 5];
     let accepted = c.accepted;
     if c.number != 0 {
-        io::write_all(1, b"X ");
-        print_decimal(&mut text, c.number as u64);
+        streams::write_all(rt, b"X ");
+        print_decimal(rt, &mut text, c.number as u64);
         return;
     }
     if accepted {
-        io::write_all(1, b"A ");
+        streams::write_all(rt, b"A ");
     } else {
-        io::write_all(1, b"F ");
+        streams::write_all(rt, b"F ");
     }
-    print_decimal(&mut text, c.at as u64);
+    print_decimal(rt, &mut text, c.at as u64);
 }
 
 // Status, mode and phase, and the data or the count of the phase, where it has one.
-fn print_state(s: State) {
+fn print_state(rt: &impl Print, s: State) {
     let mode = s.mode;
     let phase = s.phase;
     let m = vectors_states::mode_letter(mode);
     let p = vectors_states::phase_letter(phase);
     let text = [m, b' ', p];
-    print_byte(s.status);
-    io::write_all(1, &text);
+    print_byte(rt, s.status);
+    streams::write_all(rt, &text);
     if let Phase::Programming(v) = phase {
-        print_unit(v);
+        print_unit(rt, v);
         return;
     }
     if let Phase::Suspending(n) = phase {
-        print_unit(n as u16);
+        print_unit(rt, n as u16);
         return;
     }
-    io::write_all(1, b"---- ");
+    streams::write_all(rt, b"---- ");
 }
 
 // Cycles left, address and digest.
-fn print_numbers(left: u16, address: u32, sum: u64) {
+fn print_numbers(rt: &impl Print, left: u16, address: u32, sum: u64) {
     let mut five = [0u8; 5];
     let mut eight = [0u8; 8];
     let mut four = [0u8; 4];
-    print_decimal(&mut five, left as u64);
-    print_hex(&mut eight, address as u64, b" ");
-    print_hex(&mut four, sum, b"");
+    print_decimal(rt, &mut five, left as u64);
+    print_hex(rt, &mut eight, address as u64, b" ");
+    print_hex(rt, &mut four, sum, b"");
 }
 
 // A space and a count of erases.
-fn print_count(n: u32) {
-    io::write_all(1, b" ");
-    io::print_decimal(1, n as u64);
+fn print_count(rt: &impl Print, n: u32) {
+    streams::write_all(rt, b" ");
+    streams::print_decimal(rt, n as u64);
 }
 
 // The erases begun, block by block, and the end of the line.
-fn print_wear(w: Wear) {
-    print_count(w.block0);
-    print_count(w.block1);
-    print_count(w.block2);
-    print_count(w.block3);
-    print_count(w.block4);
-    print_count(w.block5);
-    print_count(w.block6);
-    io::write_all(1, b"\n");
+fn print_wear(rt: &impl Print, w: Wear) {
+    print_count(rt, w.block0);
+    print_count(rt, w.block1);
+    print_count(rt, w.block2);
+    print_count(rt, w.block3);
+    print_count(rt, w.block4);
+    print_count(rt, w.block5);
+    print_count(rt, w.block6);
+    streams::write_all(rt, b"\n");
 }
 
 // One whole line.
-fn print_line(g: Group, line: u32, c: Checked, sum: u64) {
+fn print_line(rt: &impl Print, g: Group, line: u32, c: Checked, sum: u64) {
     let state = c.state;
     let wear = state.wear;
-    print_label(g, line);
-    print_verdict(c);
-    print_state(state);
-    print_numbers(state.left, state.address, sum);
-    print_wear(wear);
+    print_label(rt, g, line);
+    print_verdict(rt, c);
+    print_state(rt, state);
+    print_numbers(rt, state.left, state.address, sum);
+    print_wear(rt, wear);
 }
 
 // The end of a recording and its line.
-fn judge(b: Bench, array: &mut [u8], promised: &[u8]) -> Bench {
+fn judge(rt: &impl Print, b: Bench, array: &mut [u8], promised: &[u8]) -> Bench {
     let n = common::least(b.array, array.len());
     let m = common::least(b.promised, promised.len());
     let walk = b.walk;
@@ -231,7 +231,7 @@ fn judge(b: Bench, array: &mut [u8], promised: &[u8]) -> Bench {
     let c = recording_walk::end(&promised[0..m], &mut array[0..n], walk);
     let sum = vectors_text::digest(&array[0..n]);
     let line = (b.lines % 9999) + 1;
-    print_line(group, line, c, sum);
+    print_line(rt, group, line, c, sum);
     with_walk(b, walk, line)
 }
 
@@ -315,7 +315,7 @@ fn set(row: &[u8], op: u8, b: Bench) -> Bench {
 }
 
 // One row: what it fills, sets, records or judges.
-fn take_row(row: &[u8], b: Bench, array: &mut [u8], promised: &mut [u8]) -> Bench {
+fn take_row(rt: &impl Print, row: &[u8], b: Bench, array: &mut [u8], promised: &mut [u8]) -> Bench {
     let op = common::nth(row, 0);
     if op == b'A' {
         sow(array, b.array, row);
@@ -333,25 +333,25 @@ fn take_row(row: &[u8], b: Bench, array: &mut [u8], promised: &mut [u8]) -> Benc
         return go_on(b, record_of(row, op), array);
     }
     if op == b'K' {
-        return judge(b, array, promised);
+        return judge(rt, b, array, promised);
     }
     set(row, op, b)
 }
 
 // Every row in its order.
-fn all(text: &[u8], array: &mut [u8], promised: &mut [u8]) {
+fn all(rt: &impl Print, text: &[u8], array: &mut [u8], promised: &mut [u8]) {
     let mut b = bare();
     let mut at = 0;
     while at < text.len() {
-        b = take_row(&text[at..], b, array, promised);
+        b = take_row(rt, &text[at..], b, array, promised);
         at = vectors_text::next_row(text, at);
     }
 }
 
-fn main() {
+fn main(rt: HostRuntime) {
     let mut text = vectors_states::vast();
     let mut array = vectors_states::vast();
     let mut promised = vectors_states::vast();
-    let n = io::read_full(0, &mut text);
-    all(&text[..n], &mut array, &mut promised);
+    let n = streams::read_input(&rt, &mut text);
+    all(&rt, &text[..n], &mut array, &mut promised);
 }

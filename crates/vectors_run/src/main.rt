@@ -139,12 +139,12 @@ fn with_wear(b: Bench, wear: Wear) -> Bench {
 }
 
 // The bench after one more line, with the state and the record that the line shows; the line begins with its label.
-fn after_line(b: Bench, state: State, loader: Loader) -> Bench {
+fn after_line(rt: &impl Print, b: Bench, state: State, loader: Loader) -> Bench {
     let setup = b.setup;
     let wear = b.wear;
     let group = b.group;
     let lines = (b.lines % 9999) + 1;
-    print_label(group, lines);
+    print_label(rt, group, lines);
     Bench {
         setup: setup,
         state: state,
@@ -155,115 +155,115 @@ fn after_line(b: Bench, state: State, loader: Loader) -> Bench {
     }
 }
 
-fn print_text(text: &[u8]) {
-    io::write_all(1, text);
+fn print_text(rt: &impl Print, text: &[u8]) {
+    streams::write_all(rt, text);
 }
 
 // A number in as many decimal digits as a slice has, and a space.
-fn print_decimal(text: &mut [u8], x: u64) {
+fn print_decimal(rt: &impl Print, text: &mut [u8], x: u64) {
     text::decimal(text, x);
-    print_text(text);
-    print_text(b" ");
+    print_text(rt, text);
+    print_text(rt, b" ");
 }
 
 // A number in as many hex digits as a slice has, and what comes after it.
-fn print_hex(text: &mut [u8], x: u64, end: &[u8]) {
+fn print_hex(rt: &impl Print, text: &mut [u8], x: u64, end: &[u8]) {
     text::hex(text, x);
-    print_text(text);
-    print_text(end);
+    print_text(rt, text);
+    print_text(rt, end);
 }
 
-fn print_byte(x: u8) {
+fn print_byte(rt: &impl Print, x: u8) {
     let mut text = [0u8; 2];
-    print_hex(&mut text, x as u64, b" ");
+    print_hex(rt, &mut text, x as u64, b" ");
 }
 
 // A byte or a word, in four digits.
-fn print_unit(x: u16) {
+fn print_unit(rt: &impl Print, x: u16) {
     let mut text = [0u8; 4];
-    print_hex(&mut text, x as u64, b" ");
+    print_hex(rt, &mut text, x as u64, b" ");
 }
 
 // A level in three decimal digits.
-fn print_level(x: u8) {
+fn print_level(rt: &impl Print, x: u8) {
     let mut text = [0u8; 3];
-    print_decimal(&mut text, x as u64);
+    print_decimal(rt, &mut text, x as u64);
 }
 
 // The group's letters and the line's number.
-fn print_label(g: Group, line: u32) {
+fn print_label(rt: &impl Print, g: Group, line: u32) {
     let letters = [g.a, g.b, g.c, g.d, b' '];
     let mut text = [0u8; 4];
-    print_text(&letters);
-    print_decimal(&mut text, line as u64);
+    print_text(rt, &letters);
+    print_decimal(rt, &mut text, line as u64);
 }
 
 // A letter and a number in three decimal digits.
-fn print_number(letter: u8, n: u8) {
+fn print_number(rt: &impl Print, letter: u8, n: u8) {
     let mark = [letter, b' '];
-    print_text(&mark);
-    print_level(n);
+    print_text(rt, &mark);
+    print_level(rt, n);
 }
 
 // A number in ten decimal digits.
-fn print_long(x: u64) {
+fn print_long(rt: &impl Print, x: u64) {
     let mut text = [0u8; 10];
-    print_decimal(&mut text, x);
+    print_decimal(rt, &mut text, x);
 }
 
-fn print_address(x: u32) {
+fn print_address(rt: &impl Print, x: u32) {
     let mut text = [0u8; 8];
-    print_hex(&mut text, x as u64, b" ");
+    print_hex(rt, &mut text, x as u64, b" ");
 }
 
 // A digest and what comes after it.
-fn print_sum(x: u64, end: &[u8]) {
+fn print_sum(rt: &impl Print, x: u64, end: &[u8]) {
     let mut text = [0u8; 4];
-    print_hex(&mut text, x, end);
+    print_hex(rt, &mut text, x, end);
 }
 
 // Status, mode and phase.
-fn print_state(s: State) {
+fn print_state(rt: &impl Print, s: State) {
     let mode = s.mode;
     let phase = s.phase;
     let m = vectors_states::mode_letter(mode);
     let p = vectors_states::phase_letter(phase);
     let text = [m, b' ', p, b' '];
-    print_byte(s.status);
-    print_text(&text);
+    print_byte(rt, s.status);
+    print_text(rt, &text);
 }
 
 // A space and a count of erases.
-fn print_count(n: u32) {
-    print_text(b" ");
-    io::print_decimal(1, n as u64);
+fn print_count(rt: &impl Print, n: u32) {
+    print_text(rt, b" ");
+    streams::print_decimal(rt, n as u64);
 }
 
 // The erases begun, block by block, and what comes after them.
-fn print_wear(w: Wear, end: &[u8]) {
-    print_count(w.block0);
-    print_count(w.block1);
-    print_count(w.block2);
-    print_count(w.block3);
-    print_count(w.block4);
-    print_count(w.block5);
-    print_count(w.block6);
-    print_text(end);
+fn print_wear(rt: &impl Print, w: Wear, end: &[u8]) {
+    print_count(rt, w.block0);
+    print_count(rt, w.block1);
+    print_count(rt, w.block2);
+    print_count(rt, w.block3);
+    print_count(rt, w.block4);
+    print_count(rt, w.block5);
+    print_count(rt, w.block6);
+    print_text(rt, end);
 }
 
 // A whole run, or a load or a verify alone: its end, count and address, the state, digests of array and scratch, and the erases
 // begun before it and after it.
-fn print_run(op: u8, x: Ran, array: u64, scratch: u64, had: Wear) {
+fn print_run(rt: &impl Print, op: u8, x: Ran, array: u64, scratch: u64, had: Wear) {
     let state = x.state;
     let has = state.wear;
-    print_number(op, x.end);
-    print_long(x.count);
-    print_address(x.address);
-    print_state(state);
-    print_sum(array, b" ");
-    print_sum(scratch, b"");
-    print_wear(had, b" >");
-    print_wear(has, b"\n");
+    print_number(rt, op, x.end);
+    print_long(rt, x.count);
+    print_address(rt, x.address);
+    print_state(rt, state);
+    print_sum(rt, array, b" ");
+    print_sum(rt, scratch, b"");
+    print_wear(rt, had, b" >");
+    print_wear(rt, has, b"\n");
 }
 
 fn kind_letter(kind: Kind) -> u8 {
@@ -275,25 +275,25 @@ fn kind_letter(kind: Kind) -> u8 {
 }
 
 // The cycle that is out.
-fn print_cycle(c: Cycle) {
+fn print_cycle(rt: &impl Print, c: Cycle) {
     let kind = c.kind;
     let pins = c.pins;
-    print_number(kind_letter(kind), pins.rp);
-    print_level(pins.wp);
-    print_long(pins.vpp as u64);
-    print_address(c.address);
-    print_unit(c.data);
+    print_number(rt, kind_letter(kind), pins.rp);
+    print_level(rt, pins.wp);
+    print_long(rt, pins.vpp as u64);
+    print_address(rt, c.address);
+    print_unit(rt, c.data);
 }
 
 // What the loader gave: the cycle that is out, the end, or a refusal.
-fn print_saying(saying: Saying) {
+fn print_saying(rt: &impl Print, saying: Saying) {
     match saying {
-        Saying::Out(c) => print_cycle(c),
+        Saying::Out(c) => print_cycle(rt, c),
         Saying::Over(n, address) => {
-            print_number(b'E', n);
-            print_address(address);
+            print_number(rt, b'E', n);
+            print_address(rt, address);
         }
-        Saying::Refused(n) => print_number(b'X', n),
+        Saying::Refused(n) => print_number(rt, b'X', n),
     }
 }
 
@@ -404,18 +404,25 @@ fn same_ran(x: Ran, y: Ran) -> bool {
 }
 
 // A second line where the run cycle by cycle returns or leaves something else.
-fn print_other(op: u8, x: Ran, held: u64, room: u64, had: Wear, other: Other) {
+fn print_other(rt: &impl Print, op: u8, x: Ran, held: u64, room: u64, had: Wear, other: Other) {
     let y = other.ran;
     let same = same_ran(x, y) & (held == other.held) & (room == other.room);
     if same {
         return;
     }
-    print_text(b"cycle by cycle: ");
-    print_run(op, y, other.held, other.room, had)
+    print_text(rt, b"cycle by cycle: ");
+    print_run(rt, op, y, other.held, other.room, had)
 }
 
 // A whole run, or a part of it alone, and its line.
-fn run_line(op: u8, b: Bench, array: &mut [u8], wanted: &[u8], scratch: &mut [u8]) -> Bench {
+fn run_line(
+    rt: &impl Print,
+    op: u8,
+    b: Bench,
+    array: &mut [u8],
+    wanted: &[u8],
+    scratch: &mut [u8],
+) -> Bench {
     let setup = b.setup;
     let before = b.state;
     let had = before.wear;
@@ -425,20 +432,20 @@ fn run_line(op: u8, b: Bench, array: &mut [u8], wanted: &[u8], scratch: &mut [u8
     let state = x.state;
     let held = sum_of(array, setup.array);
     let room = sum_of(scratch, setup.scratch);
-    let after = after_line(b, state, loader);
-    print_run(op, x, held, room, had);
-    print_other(op, x, held, room, had, other);
+    let after = after_line(rt, b, state, loader);
+    print_run(rt, op, x, held, room, had);
+    print_other(rt, op, x, held, room, had, other);
     after
 }
 
 // The line of a start or a step.
-fn response_line(b: Bench, g: Response, room: u64) -> Bench {
+fn response_line(rt: &impl Print, b: Bench, g: Response, room: u64) -> Bench {
     let state = b.state;
     let saying = g.saying;
     let loader = g.loader;
-    let after = after_line(b, state, loader);
-    print_saying(saying);
-    print_sum(room, b"\n");
+    let after = after_line(rt, b, state, loader);
+    print_saying(rt, saying);
+    print_sum(rt, room, b"\n");
     after
 }
 
@@ -459,7 +466,7 @@ fn started(op: u8, part: Part, pins: Pins, block: u8, wanted: &[u8], scratch: &[
 }
 
 // A start and its line.
-fn start_line(op: u8, b: Bench, wanted: &[u8], scratch: &[u8]) -> Bench {
+fn start_line(rt: &impl Print, op: u8, b: Bench, wanted: &[u8], scratch: &[u8]) -> Bench {
     let setup = b.setup;
     let device = setup.device;
     let part = device.part;
@@ -468,7 +475,7 @@ fn start_line(op: u8, b: Bench, wanted: &[u8], scratch: &[u8]) -> Bench {
     let k = common::least(setup.scratch, scratch.len());
     let g = started(op, part, pins, setup.block, &wanted[0..m], &scratch[0..k]);
     let room = sum_of(scratch, setup.scratch);
-    response_line(b, g, room)
+    response_line(rt, b, g, room)
 }
 
 // Steps with the same data, at least one.
@@ -499,12 +506,12 @@ fn stepped(
 }
 
 // Steps and the line of the last.
-fn step_line(b: Bench, row: &[u8], wanted: &[u8], scratch: &mut [u8]) -> Bench {
+fn step_line(rt: &impl Print, b: Bench, row: &[u8], wanted: &[u8], scratch: &mut [u8]) -> Bench {
     let setup = b.setup;
     let before = b.loader;
     let g = stepped(setup, before, row, wanted, scratch);
     let room = sum_of(scratch, setup.scratch);
-    response_line(b, g, room)
+    response_line(rt, b, g, room)
 }
 
 // Fills the front of a slice, as a row says.
@@ -620,21 +627,30 @@ fn is_start(op: u8) -> bool {
 }
 
 // The rows that print a line.
-fn act(row: &[u8], op: u8, b: Bench, array: &mut [u8], wanted: &[u8], scratch: &mut [u8]) -> Bench {
+fn act(
+    rt: &impl Print,
+    row: &[u8],
+    op: u8,
+    b: Bench,
+    array: &mut [u8],
+    wanted: &[u8],
+    scratch: &mut [u8],
+) -> Bench {
     if is_run(op) {
-        return run_line(op, b, array, wanted, scratch);
+        return run_line(rt, op, b, array, wanted, scratch);
     }
     if is_start(op) {
-        return start_line(op, b, wanted, scratch);
+        return start_line(rt, op, b, wanted, scratch);
     }
     if op == b'N' {
-        return step_line(b, row, wanted, scratch);
+        return step_line(rt, b, row, wanted, scratch);
     }
     b
 }
 
 // One row. A row that sets the bench prints nothing, and one that prints sets nothing.
 fn take_row(
+    rt: &impl Print,
     row: &[u8],
     b: Bench,
     array: &mut [u8],
@@ -647,24 +663,24 @@ fn take_row(
         fill(row, op, setup, array, wanted, scratch);
         return b;
     }
-    act(row, op, set(row, op, b), array, wanted, scratch)
+    act(rt, row, op, set(row, op, b), array, wanted, scratch)
 }
 
 // Every row in its order.
-fn all(text: &[u8], array: &mut [u8], wanted: &mut [u8], scratch: &mut [u8]) {
+fn all(rt: &impl Print, text: &[u8], array: &mut [u8], wanted: &mut [u8], scratch: &mut [u8]) {
     let mut b = bare();
     let mut at = 0;
     while at < text.len() {
-        b = take_row(&text[at..], b, array, wanted, scratch);
+        b = take_row(rt, &text[at..], b, array, wanted, scratch);
         at = vectors_text::next_row(text, at);
     }
 }
 
-fn main() {
+fn main(rt: HostRuntime) {
     let mut text = vectors_text::blank();
     let mut array = vectors_states::vast();
     let mut wanted = vectors_text::blank();
     let mut scratch = vectors_text::blank();
-    let n = io::read_full(0, &mut text);
-    all(&text[..n], &mut array, &mut wanted, &mut scratch);
+    let n = streams::read_input(&rt, &mut text);
+    all(&rt, &text[..n], &mut array, &mut wanted, &mut scratch);
 }

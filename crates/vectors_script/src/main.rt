@@ -35,39 +35,47 @@ fn put_pieces(text: &mut [u8], len: usize, piece: &[u8], times: usize) -> usize
 }
 
 // The last seven bytes of the output, or a newline where there are fewer.
-fn show_last(out: &[u8], used: usize) {
+fn show_last(rt: &impl Print, out: &[u8], used: usize) {
     let e = common::least(used, out.len());
     if e < 7 {
-        io::write_all(1, b"\n");
+        streams::write_all(rt, b"\n");
         return;
     }
     let a = e - 7;
-    io::write_all(1, &out[a..e]);
+    streams::write_all(rt, &out[a..e]);
 }
 
-fn show(number: usize, r: Replayed, array: &[u8], out: &[u8]) {
+fn show(rt: &impl Print, number: usize, r: Replayed, array: &[u8], out: &[u8]) {
     let refused = r.number;
     let used = r.used;
-    io::print_decimal(1, number as u64);
-    io::write_all(1, b" ");
-    io::print_decimal(1, refused as u64);
-    io::write_all(1, b" ");
-    io::print_decimal(1, used as u64);
-    io::write_all(1, b" ");
-    io::print_hex(1, vectors_text::digest(out), 4);
-    io::write_all(1, b" ");
-    io::print_hex(1, vectors_text::digest(array), 4);
-    io::write_all(1, b" ");
-    show_last(out, used);
+    streams::print_decimal(rt, number as u64);
+    streams::write_all(rt, b" ");
+    streams::print_decimal(rt, refused as u64);
+    streams::write_all(rt, b" ");
+    streams::print_decimal(rt, used as u64);
+    streams::write_all(rt, b" ");
+    streams::print_hex(rt, vectors_text::digest(out), 4);
+    streams::write_all(rt, b" ");
+    streams::print_hex(rt, vectors_text::digest(array), 4);
+    streams::write_all(rt, b" ");
+    show_last(rt, out, used);
 }
 
 // A text is run, on a fresh array and a fresh output.
-fn run(number: usize, text: &[u8], room: usize, array: &mut [u8], residue: &[u8], out: &mut [u8]) {
+fn run(
+    rt: &impl Print,
+    number: usize,
+    text: &[u8],
+    room: usize,
+    array: &mut [u8],
+    residue: &[u8],
+    out: &mut [u8],
+) {
     let m = common::least(room, out.len());
     common::fill(array, 255);
     common::fill(out, 46);
     let r = script_run::run_script(text, array, residue, &mut out[0..m]);
-    show(number, r, array, out);
+    show(rt, number, r, array, out);
 }
 
 // What is put together so far has so many bytes; the next case has this number.
@@ -79,6 +87,7 @@ struct Held {
 
 // One row: a piece is put to the text, or what was put together is run.
 fn take_row(
+    rt: &impl Print,
     letter: u8,
     n: usize,
     piece: &[u8],
@@ -99,7 +108,7 @@ fn take_row(
         };
     }
     let len = h.len;
-    run(h.number, &text[0..len], n, array, residue, out);
+    run(rt, h.number, &text[0..len], n, array, residue, out);
     Held {
         len: 0,
         number: (h.number + 1) % 10000,
@@ -107,7 +116,14 @@ fn take_row(
 }
 
 // Every row in its turn.
-fn all(rows: &[u8], text: &mut [u8], array: &mut [u8], residue: &[u8], out: &mut [u8]) {
+fn all(
+    rt: &impl Print,
+    rows: &[u8],
+    text: &mut [u8],
+    array: &mut [u8],
+    residue: &[u8],
+    out: &mut [u8],
+) {
     let mut at = 0;
     let mut h = Held { len: 0, number: 1 };
     while 12 <= rows.len() - at {
@@ -116,6 +132,7 @@ fn all(rows: &[u8], text: &mut [u8], array: &mut [u8], residue: &[u8], out: &mut
         let m = vectors_text::size_at(rows, 10, at + 8, 3);
         let e = a + common::least(m, rows.len() - a);
         h = take_row(
+            rt,
             common::nth(rows, at),
             n,
             &rows[a..e],
@@ -129,12 +146,12 @@ fn all(rows: &[u8], text: &mut [u8], array: &mut [u8], residue: &[u8], out: &mut
     }
 }
 
-fn main() {
+fn main(rt: HostRuntime) {
     let mut rows = [0u8; 16000];
     let mut text = [0u8; 61000];
     let mut array = [255u8; 16384];
     let residue = [255u8; 16384];
     let mut out = [0u8; 80000];
-    let n = io::read_full(0, &mut rows);
-    all(&rows[..n], &mut text, &mut array, &residue, &mut out);
+    let n = streams::read_input(&rt, &mut rows);
+    all(&rt, &rows[..n], &mut text, &mut array, &residue, &mut out);
 }

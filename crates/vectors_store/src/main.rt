@@ -129,12 +129,12 @@ fn with_file(b: Bench, file: usize) -> Bench {
 }
 
 // The bench after one more line, with the state that the line shows; the line begins with its label.
-fn after_line(b: Bench, state: State) -> Bench {
+fn after_line(rt: &impl Print, b: Bench, state: State) -> Bench {
     let setup = b.setup;
     let wear = b.wear;
     let group = b.group;
     let lines = (b.lines % 9999) + 1;
-    print_label(group, lines);
+    print_label(rt, group, lines);
     Bench {
         setup: setup,
         state: state,
@@ -145,85 +145,85 @@ fn after_line(b: Bench, state: State) -> Bench {
     }
 }
 
-fn print_text(text: &[u8]) {
-    io::write_all(1, text);
+fn print_text(rt: &impl Print, text: &[u8]) {
+    streams::write_all(rt, text);
 }
 
 // A number in as many decimal digits as a slice has, and a space.
-fn print_decimal(text: &mut [u8], x: u64) {
+fn print_decimal(rt: &impl Print, text: &mut [u8], x: u64) {
     text::decimal(text, x);
-    print_text(text);
-    print_text(b" ");
+    print_text(rt, text);
+    print_text(rt, b" ");
 }
 
 // A number in as many hex digits as a slice has, and what comes after it.
-fn print_hex(text: &mut [u8], x: u64, end: &[u8]) {
+fn print_hex(rt: &impl Print, text: &mut [u8], x: u64, end: &[u8]) {
     text::hex(text, x);
-    print_text(text);
-    print_text(end);
+    print_text(rt, text);
+    print_text(rt, end);
 }
 
 // The group's letters and the line's number.
-fn print_label(g: Group, line: u32) {
+fn print_label(rt: &impl Print, g: Group, line: u32) {
     let letters = [g.a, g.b, g.c, g.d, b' '];
     let mut text = [0u8; 4];
-    print_text(&letters);
-    print_decimal(&mut text, line as u64);
+    print_text(rt, &letters);
+    print_decimal(rt, &mut text, line as u64);
 }
 
 // A letter and a number in three decimal digits.
-fn print_number(letter: u8, n: u8) {
+fn print_number(rt: &impl Print, letter: u8, n: u8) {
     let mark = [letter, b' '];
     let mut text = [0u8; 3];
-    print_text(&mark);
-    print_decimal(&mut text, n as u64);
+    print_text(rt, &mark);
+    print_decimal(rt, &mut text, n as u64);
 }
 
 // A digest and what comes after it.
-fn print_sum(x: u64, end: &[u8]) {
+fn print_sum(rt: &impl Print, x: u64, end: &[u8]) {
     let mut text = [0u8; 4];
-    print_hex(&mut text, x, end);
+    print_hex(rt, &mut text, x, end);
 }
 
 // Status, mode and phase.
-fn print_state(s: State) {
+fn print_state(rt: &impl Print, s: State) {
     let mode = s.mode;
     let phase = s.phase;
     let m = vectors_states::mode_letter(mode);
     let p = vectors_states::phase_letter(phase);
     let text = [m, b' ', p, b' '];
     let mut status = [0u8; 2];
-    print_hex(&mut status, s.status as u64, b" ");
-    print_text(&text);
+    print_hex(rt, &mut status, s.status as u64, b" ");
+    print_text(rt, &text);
 }
 
 // A space and a count of erases.
-fn print_count(n: u32) {
-    print_text(b" ");
-    io::print_decimal(1, n as u64);
+fn print_count(rt: &impl Print, n: u32) {
+    print_text(rt, b" ");
+    streams::print_decimal(rt, n as u64);
 }
 
 // The erases begun, block by block, and what comes after them.
-fn print_wear(w: Wear, end: &[u8]) {
-    print_count(w.block0);
-    print_count(w.block1);
-    print_count(w.block2);
-    print_count(w.block3);
-    print_count(w.block4);
-    print_count(w.block5);
-    print_count(w.block6);
-    print_text(end);
+fn print_wear(rt: &impl Print, w: Wear, end: &[u8]) {
+    print_count(rt, w.block0);
+    print_count(rt, w.block1);
+    print_count(rt, w.block2);
+    print_count(rt, w.block3);
+    print_count(rt, w.block4);
+    print_count(rt, w.block5);
+    print_count(rt, w.block6);
+    print_text(rt, end);
 }
 
 // A change: its end, count and address, and the state.
-fn print_ran(op: u8, x: Ran) {
+fn print_ran(rt: &impl Print, op: u8, x: Ran) {
     let state = x.state;
     let mut ten = [0u8; 10];
     let mut eight = [0u8; 8];
-    print_number(op, x.end);
-    print_decimal(&mut ten, x.count);
-    print_hex(&mut eight, x.address as u64, b" ");
-    print_state(state);
+    print_number(rt, op, x.end);
+    print_decimal(rt, &mut ten, x.count);
+    print_hex(rt, &mut eight, x.address as u64, b" ");
+    print_state(rt, state);
 }
 
 // A digest of what is lent of a slice.
@@ -233,31 +233,31 @@ fn sum_of(s: &[u8], asked: usize) -> u64 {
 }
 
 // What a find of a letter gives: its number, or the file's length and a digest.
-fn print_find(part: Part, array: &[u8], letter: u8) {
+fn print_find(rt: &impl Print, part: Part, array: &[u8], letter: u8) {
     let mut room = vectors_text::blank();
     let f = store::find_letter(part, array, letter, &mut room);
-    print_text(b" ");
+    print_text(rt, b" ");
     if f.number != 0 {
-        io::print_decimal(1, f.number as u64);
+        streams::print_decimal(rt, f.number as u64);
         return;
     }
-    io::print_decimal(1, f.length as u64);
-    print_text(b"/");
-    print_sum(sum_of(&room, f.length), b"");
+    streams::print_decimal(rt, f.length as u64);
+    print_text(rt, b"/");
+    print_sum(rt, sum_of(&room, f.length), b"");
 }
 
 // What a find gives for each letter, and the end of the line.
-fn print_finds(part: Part, array: &[u8]) {
-    print_text(b" :");
-    print_find(part, array, b'B');
-    print_find(part, array, b'E');
-    print_find(part, array, b'J');
-    print_find(part, array, b'K');
-    print_find(part, array, b'N');
-    print_find(part, array, b'R');
-    print_find(part, array, b'S');
-    print_find(part, array, b'T');
-    print_text(b"\n");
+fn print_finds(rt: &impl Print, part: Part, array: &[u8]) {
+    print_text(rt, b" :");
+    print_find(rt, part, array, b'B');
+    print_find(rt, part, array, b'E');
+    print_find(rt, part, array, b'J');
+    print_find(rt, part, array, b'K');
+    print_find(rt, part, array, b'N');
+    print_find(rt, part, array, b'R');
+    print_find(rt, part, array, b'S');
+    print_find(rt, part, array, b'T');
+    print_text(rt, b"\n");
 }
 
 // An add of the file, or a drop.
@@ -308,33 +308,42 @@ fn changed_lent(
 }
 
 // The finds on what is lent of the array.
-fn print_finds_lent(setup: Setup, array: &[u8]) {
+fn print_finds_lent(rt: &impl Print, setup: Setup, array: &[u8]) {
     let n = common::least(setup.array, array.len());
     let device = setup.device;
     let part = device.part;
-    print_finds(part, &array[0..n]);
+    print_finds(rt, part, &array[0..n]);
 }
 
 // The line of a change: its result, what is left of the slices, the erases begun before it and after it, and the finds.
-fn tell_change(op: u8, b: Bench, x: Ran, array: &[u8], memory: &[u8], scratch: &[u8]) -> Bench {
+fn tell_change(
+    rt: &impl Print,
+    op: u8,
+    b: Bench,
+    x: Ran,
+    array: &[u8],
+    memory: &[u8],
+    scratch: &[u8],
+) -> Bench {
     let setup = b.setup;
     let before = b.state;
     let had = before.wear;
     let state = x.state;
     let has = state.wear;
-    let after = after_line(b, state);
-    print_ran(op, x);
-    print_sum(sum_of(array, setup.array), b" ");
-    print_sum(sum_of(memory, setup.memory), b" ");
-    print_sum(sum_of(scratch, setup.scratch), b"");
-    print_wear(had, b" >");
-    print_wear(has, b"");
-    print_finds_lent(setup, array);
+    let after = after_line(rt, b, state);
+    print_ran(rt, op, x);
+    print_sum(rt, sum_of(array, setup.array), b" ");
+    print_sum(rt, sum_of(memory, setup.memory), b" ");
+    print_sum(rt, sum_of(scratch, setup.scratch), b"");
+    print_wear(rt, had, b" >");
+    print_wear(rt, has, b"");
+    print_finds_lent(rt, setup, array);
     after
 }
 
 // A change and its line.
 fn change_line(
+    rt: &impl Print,
     op: u8,
     row: &[u8],
     b: Bench,
@@ -345,17 +354,17 @@ fn change_line(
 ) -> Bench {
     let letter = vectors_text::byte_at(row, 16, 2, 2);
     let x = changed_lent(op, letter, b, array, memory, scratch, file);
-    tell_change(op, b, x, array, memory, scratch)
+    tell_change(rt, op, b, x, array, memory, scratch)
 }
 
 // A find on what is lent, and its line.
-fn find_line(row: &[u8], part: Part, array: &[u8], room: &mut [u8]) {
+fn find_line(rt: &impl Print, row: &[u8], part: Part, array: &[u8], room: &mut [u8]) {
     let letter = vectors_text::byte_at(row, 16, 2, 2);
     let f = store::find_letter(part, array, letter, room);
     let mut six = [0u8; 6];
-    print_number(b'Q', f.number);
-    print_decimal(&mut six, f.length as u64);
-    print_sum(vectors_text::digest(room), b"\n");
+    print_number(rt, b'Q', f.number);
+    print_decimal(rt, &mut six, f.length as u64);
+    print_sum(rt, vectors_text::digest(room), b"\n");
 }
 
 // Bits as a signed number.
@@ -368,39 +377,39 @@ fn signed(u: u32) -> i32 {
 }
 
 // A case, the bits of a temperature, and a space.
-fn print_bits(mark: &[u8], t: f64) {
-    print_text(mark);
+fn print_bits(rt: &impl Print, mark: &[u8], t: f64) {
+    print_text(rt, mark);
     if t != t {
-        print_text(b"none ");
+        print_text(rt, b"none ");
         return;
     }
-    io::print_hex(1, f64::to_bits(t), 16);
-    print_text(b" ");
+    streams::print_hex(rt, f64::to_bits(t), 16);
+    print_text(rt, b" ");
 }
 
-fn print_reading(r: Reading) {
+fn print_reading(rt: &impl Print, r: Reading) {
     match r {
-        Reading::Temperature(t) => print_bits(b"T ", t),
-        Reading::Below(t) => print_bits(b"B ", t),
-        Reading::Above(t) => print_bits(b"A ", t),
+        Reading::Temperature(t) => print_bits(rt, b"T ", t),
+        Reading::Below(t) => print_bits(rt, b"B ", t),
+        Reading::Above(t) => print_bits(rt, b"A ", t),
     }
 }
 
 // A read on what is lent, and its line.
-fn read_line(row: &[u8], part: Part, array: &[u8], room: &mut [u8]) {
+fn read_line(rt: &impl Print, row: &[u8], part: Part, array: &[u8], room: &mut [u8]) {
     let letter = vectors_text::byte_at(row, 16, 2, 2);
     let x = signed(vectors_text::word_at(row, 16, 12, 8));
     let a = store::read_letter(part, array, letter, room, x);
-    print_text(b"R ");
+    print_text(rt, b"R ");
     match a {
-        ReadingAnswer::Read(r) => print_reading(r),
-        ReadingAnswer::Refused(n) => print_number(b'X', n),
+        ReadingAnswer::Read(r) => print_reading(rt, r),
+        ReadingAnswer::Refused(n) => print_number(rt, b'X', n),
     }
-    print_sum(vectors_text::digest(room), b"\n");
+    print_sum(rt, vectors_text::digest(room), b"\n");
 }
 
 // A find or a read, with room of 5AH.
-fn ask_line(op: u8, row: &[u8], b: Bench, array: &[u8]) -> Bench {
+fn ask_line(rt: &impl Print, op: u8, row: &[u8], b: Bench, array: &[u8]) -> Bench {
     let mut room = vectors_text::blank();
     let setup = b.setup;
     let state = b.state;
@@ -408,13 +417,13 @@ fn ask_line(op: u8, row: &[u8], b: Bench, array: &[u8]) -> Bench {
     let part = device.part;
     let n = common::least(setup.array, array.len());
     let m = common::least(vectors_text::size_at(row, 10, 5, 6), 131073);
-    let after = after_line(b, state);
+    let after = after_line(rt, b, state);
     common::fill(&mut room, 90);
     if op == b'Q' {
-        find_line(row, part, &array[0..n], &mut room[0..m]);
+        find_line(rt, row, part, &array[0..n], &mut room[0..m]);
         return after;
     }
-    read_line(row, part, &array[0..n], &mut room[0..m]);
+    read_line(rt, row, part, &array[0..n], &mut room[0..m]);
     after
 }
 
@@ -583,6 +592,7 @@ fn is_question(op: u8) -> bool {
 
 // One row: what it changes, asks, sets, fills or shapes.
 fn take_row(
+    rt: &impl Print,
     row: &[u8],
     b: Bench,
     array: &mut [u8],
@@ -592,10 +602,10 @@ fn take_row(
 ) -> Bench {
     let op = common::nth(row, 0);
     if is_change(op) {
-        return change_line(op, row, b, array, memory, scratch, file);
+        return change_line(rt, op, row, b, array, memory, scratch, file);
     }
     if is_question(op) {
-        return ask_line(op, row, b, array);
+        return ask_line(rt, op, row, b, array);
     }
     if is_filling(op) {
         let setup = b.setup;
@@ -606,21 +616,35 @@ fn take_row(
 }
 
 // Every row in its order.
-fn all(text: &[u8], array: &mut [u8], memory: &mut [u8], scratch: &mut [u8], file: &mut [u8]) {
+fn all(
+    rt: &impl Print,
+    text: &[u8],
+    array: &mut [u8],
+    memory: &mut [u8],
+    scratch: &mut [u8],
+    file: &mut [u8],
+) {
     let mut b = bare();
     let mut at = 0;
     while at < text.len() {
-        b = take_row(&text[at..], b, array, memory, scratch, file);
+        b = take_row(rt, &text[at..], b, array, memory, scratch, file);
         at = vectors_text::next_row(text, at);
     }
 }
 
-fn main() {
+fn main(rt: HostRuntime) {
     let mut text = vectors_text::blank();
     let mut array = vectors_states::vast();
     let mut memory = vectors_text::blank();
     let mut scratch = vectors_text::blank();
     let mut file = [0u8; 115300];
-    let n = io::read_full(0, &mut text);
-    all(&text[..n], &mut array, &mut memory, &mut scratch, &mut file);
+    let n = streams::read_input(&rt, &mut text);
+    all(
+        &rt,
+        &text[..n],
+        &mut array,
+        &mut memory,
+        &mut scratch,
+        &mut file,
+    );
 }

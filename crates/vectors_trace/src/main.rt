@@ -34,34 +34,34 @@ fn pattern(text: &mut [u8]) {
 }
 
 // The last seven bytes of the output, or a newline where there are fewer.
-fn show_last(out: &[u8], used: usize) {
+fn show_last(rt: &impl Print, out: &[u8], used: usize) {
     if used < 7 {
-        io::write_all(1, b"\n");
+        streams::write_all(rt, b"\n");
         return;
     }
     let e = common::least(used, out.len());
     if e < 7 {
-        io::write_all(1, b"\n");
+        streams::write_all(rt, b"\n");
         return;
     }
     let a = e - 7;
-    io::write_all(1, &out[a..e]);
+    streams::write_all(rt, &out[a..e]);
 }
 
-fn show(number: u64, r: Replayed, array: &[u8], out: &[u8]) {
+fn show(rt: &impl Print, number: u64, r: Replayed, array: &[u8], out: &[u8]) {
     let refused = r.number;
     let used = r.used;
-    io::print_decimal(1, number);
-    io::write_all(1, b" ");
-    io::print_decimal(1, refused as u64);
-    io::write_all(1, b" ");
-    io::print_decimal(1, used as u64);
-    io::write_all(1, b" ");
-    io::print_hex(1, vectors_text::digest(out), 4);
-    io::write_all(1, b" ");
-    io::print_hex(1, vectors_text::digest(array), 4);
-    io::write_all(1, b" ");
-    show_last(out, used);
+    streams::print_decimal(rt, number);
+    streams::write_all(rt, b" ");
+    streams::print_decimal(rt, refused as u64);
+    streams::write_all(rt, b" ");
+    streams::print_decimal(rt, used as u64);
+    streams::write_all(rt, b" ");
+    streams::print_hex(rt, vectors_text::digest(out), 4);
+    streams::write_all(rt, b" ");
+    streams::print_hex(rt, vectors_text::digest(array), 4);
+    streams::write_all(rt, b" ");
+    show_last(rt, out, used);
 }
 
 fn rooms(i: u64) -> Case {
@@ -179,31 +179,60 @@ fn replayed(
 }
 
 // One case: its byte is put into the text, and taken out again.
-fn run(table: bool, i: u64, text: &mut [u8], array: &mut [u8], residue: &[u8], out: &mut [u8]) {
+fn run(
+    rt: &impl Print,
+    table: bool,
+    i: u64,
+    text: &mut [u8],
+    array: &mut [u8],
+    residue: &[u8],
+    out: &mut [u8],
+) {
     let c = lengths(i);
     let at = c.place;
     let old = common::nth(text, at);
     text::put(text, at, c.byte);
     let r = replayed(table, c, text, array, residue, out);
     text::put(text, at, old);
-    show(i, r, array, out);
+    show(rt, i, r, array, out);
 }
 
 // Every case in its turn, by one engine.
-fn all(table: bool, text: &mut [u8], array: &mut [u8], residue: &[u8], out: &mut [u8]) {
+fn all(
+    rt: &impl Print,
+    table: bool,
+    text: &mut [u8],
+    array: &mut [u8],
+    residue: &[u8],
+    out: &mut [u8],
+) {
     let mut i: u64 = 1;
     while i < 38 {
-        run(table, i, text, array, residue, out);
+        run(rt, table, i, text, array, residue, out);
         i += 1;
     }
 }
 
-fn main() {
+fn main(rt: HostRuntime) {
     let mut text = [0u8; 200100];
     let mut array = [255u8; 16384];
     let residue = [255u8; 16384];
     let mut out = [0u8; 80000];
     pattern(&mut text);
-    all(engines::RULES, &mut text, &mut array, &residue, &mut out);
-    all(engines::TABLE, &mut text, &mut array, &residue, &mut out);
+    all(
+        &rt,
+        engines::RULES,
+        &mut text,
+        &mut array,
+        &residue,
+        &mut out,
+    );
+    all(
+        &rt,
+        engines::TABLE,
+        &mut text,
+        &mut array,
+        &residue,
+        &mut out,
+    );
 }

@@ -99,29 +99,29 @@ fn counted(d: Desk) -> Desk {
     }
 }
 
-fn print_number(n: u64) {
-    io::write_all(1, b" ");
-    io::print_decimal(1, n);
+fn print_number(rt: &impl Print, n: u64) {
+    streams::write_all(rt, b" ");
+    streams::print_decimal(rt, n);
 }
 
 // The group's letters and the line's number.
-fn print_label(g: Group, line: u32) {
+fn print_label(rt: &impl Print, g: Group, line: u32) {
     let letters = [g.a, g.b, g.c, g.d];
-    io::write_all(1, &letters);
-    print_number(line as u64);
+    streams::write_all(rt, &letters);
+    print_number(rt, line as u64);
 }
 
 // A block: total, largest, smallest, passed.
-fn print_tally(t: Tally) {
-    io::write_all(1, b" |");
-    print_number(t.total);
-    print_number(t.largest as u64);
-    print_number(t.smallest as u64);
-    print_number(t.passed as u64);
+fn print_tally(rt: &impl Print, t: Tally) {
+    streams::write_all(rt, b" |");
+    print_number(rt, t.total);
+    print_number(rt, t.largest as u64);
+    print_number(rt, t.smallest as u64);
+    print_number(rt, t.passed as u64);
 }
 
 // The traces and the seven blocks.
-fn print_report(r: Report) {
+fn print_report(rt: &impl Print, r: Report) {
     let t0 = r.block0;
     let t1 = r.block1;
     let t2 = r.block2;
@@ -129,25 +129,25 @@ fn print_report(r: Report) {
     let t4 = r.block4;
     let t5 = r.block5;
     let t6 = r.block6;
-    print_number(r.traces as u64);
-    print_tally(t0);
-    print_tally(t1);
-    print_tally(t2);
-    print_tally(t3);
-    print_tally(t4);
-    print_tally(t5);
-    print_tally(t6);
-    io::write_all(1, b"\n");
+    print_number(rt, r.traces as u64);
+    print_tally(rt, t0);
+    print_tally(rt, t1);
+    print_tally(rt, t2);
+    print_tally(rt, t3);
+    print_tally(rt, t4);
+    print_tally(rt, t5);
+    print_tally(rt, t6);
+    streams::write_all(rt, b"\n");
 }
 
 // A line: the label, the letter of the row, the number given, the report.
-fn print_line(d: Desk, op: u8, number: u8, report: Report) {
+fn print_line(rt: &impl Print, d: Desk, op: u8, number: u8, report: Report) {
     let group = d.group;
     let mark = [b' ', op];
-    print_label(group, d.lines);
-    io::write_all(1, &mark);
-    print_number(number as u64);
-    print_report(report);
+    print_label(rt, group, d.lines);
+    streams::write_all(rt, &mark);
+    print_number(rt, number as u64);
+    print_report(rt, report);
 }
 
 // The count at a place; nothing past the end.
@@ -279,50 +279,50 @@ fn set(row: &[u8], op: u8, d: Desk) -> Desk {
 }
 
 // One more line, and the report that is now held.
-fn shown(d: Desk, op: u8, x: Reported, report: Report) -> Desk {
+fn shown(rt: &impl Print, d: Desk, op: u8, x: Reported, report: Report) -> Desk {
     let group = d.group;
     let told = x.report;
     let after = counted(d);
-    print_line(after, op, x.number, told);
+    print_line(rt, after, op, x.number, told);
     with(after, group, report)
 }
 
 // The rows that print a line: a whole report, a trace more, the report that is held.
-fn act(row: &[u8], op: u8, d: Desk, numbers: &[u8], counts: &[u32]) -> Desk {
+fn act(rt: &impl Print, row: &[u8], op: u8, d: Desk, numbers: &[u8], counts: &[u32]) -> Desk {
     let held = d.report;
     if op == b'R' {
-        return shown(d, op, reported(d, numbers, counts), held);
+        return shown(rt, d, op, reported(d, numbers, counts), held);
     }
     if (op == b'A') | (op == b'P') {
         let x = added(row, op, d);
         let report = x.report;
-        return shown(d, op, x, report);
+        return shown(rt, d, op, x, report);
     }
     if op == b'O' {
         let x = Reported {
             number: 0,
             report: held,
         };
-        return shown(d, op, x, held);
+        return shown(rt, d, op, x, held);
     }
     set(row, op, d)
 }
 
 // One row.
-fn take_row(row: &[u8], d: Desk, numbers: &mut [u8], counts: &mut [u32]) -> Desk {
+fn take_row(rt: &impl Print, row: &[u8], d: Desk, numbers: &mut [u8], counts: &mut [u32]) -> Desk {
     let op = common::nth(row, 0);
     if op == b'T' {
         return more(row, d, numbers, counts);
     }
-    act(row, op, d, numbers, counts)
+    act(rt, row, op, d, numbers, counts)
 }
 
 // Every row in its order.
-fn all(text: &[u8], numbers: &mut [u8], counts: &mut [u32]) {
+fn all(rt: &impl Print, text: &[u8], numbers: &mut [u8], counts: &mut [u32]) {
     let mut d = bare();
     let mut at = 0;
     while at < text.len() {
-        d = take_row(&text[at..], d, numbers, counts);
+        d = take_row(rt, &text[at..], d, numbers, counts);
         at = vectors_text::next_row(text, at);
     }
 }
@@ -334,10 +334,10 @@ fn room() -> [u32; 458753]
     [0; 458753]
 }
 
-fn main() {
+fn main(rt: HostRuntime) {
     let mut text = vectors_text::blank();
     let mut numbers = vectors_text::blank();
     let mut counts = room();
-    let n = io::read_full(0, &mut text);
-    all(&text[..n], &mut numbers, &mut counts);
+    let n = streams::read_input(&rt, &mut text);
+    all(&rt, &text[..n], &mut numbers, &mut counts);
 }

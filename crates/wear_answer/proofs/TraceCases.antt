@@ -6,7 +6,7 @@ use Prim.Native.Nat.{ℕ, zero-le}
 use lib.Dec.{eqb, ltb}
 use lib.ListN.{length}
 use Rattle.common.proofs.Choice.{if_true, if_false, if_same}
-use Rattle.io.specs.Counts.{IsPrefixLen}
+use Rattle.std.specs.Counts.{IsPrefixLen}
 use Rattle.trace_wear.specs.declared.Worn.{Worn}
 use Rattle.wear.specs.declared.Reported.{Reported}
 use Rattle.wear_print.specs.Tables.{table_text, line_text, laid_in, count_in}

@@ -3,7 +3,7 @@
 #![tactic(auto)]
 
 ghost use Rattle.std.specs.Prelude.{◌≡◌};
-ghost use Rattle.io.specs.Counts.{IsPrefixLen};
+ghost use Rattle.std.specs.Counts.{IsPrefixLen};
 ghost use Rattle.wear_print.specs.Tables.{laid_in, count_in};
 ghost use Rattle.wear_answer.specs.Answers.{none_yet, worn_traced, worn_fresh, unread, said_in, uncounted, wear_said, more_said};
 ghost use Rattle.wear_answer.specs.Answers.{final_text};

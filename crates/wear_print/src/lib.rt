@@ -4,7 +4,7 @@
 
 ghost use Rattle.std.specs.Prelude.{◌≡◌, ◌+◌, ◌≤◌, length};
 ghost use Rattle.common.specs.Lists.{overlaid};
-ghost use Rattle.io.specs.Counts.{IsPrefixLen};
+ghost use Rattle.std.specs.Counts.{IsPrefixLen};
 ghost use Rattle.wear_print.specs.Tables.{width_of, field_text, row_text, table_text, line_text, laid_in, count_in};
 
 use wear::{Report, Tally};
