@@ -1,13 +1,13 @@
 -- A record that is known here comes to what the step of recordings comes to: its cycle's answer in numbers is that of the device with the
 -- record's own busy time.
 use mathlib.Core.Path.{◌≡◌, refl, sym, ap, ◌∙◌}
-use mathlib.Core.Bool.{Bool, true, false, not}
+use mathlib.Core.Bool.{Bool, true, false}
 use mathlib.Core.List.{List, []}
-use Prim.Native.Nat.{ℕ, ◌-◌, ◌≤◌}
+use Prim.Native.Nat.{ℕ, ◌≤◌}
 use native.Mathlib.Omega.{arith}
 use lib.ListN.{length}
 use lib.Dec.{eqb, ltb, leb}
-use borrow.Author.Tests.{eq-eqb, lt-ltb, le-ltb}
+use borrow.Author.Tests.{eq-eqb, le-ltb}
 use Rattle.std.specs.Prelude.{if◌then◌else◌}
 use Rattle.common.proofs.Choice.{if_false, and_none, unlike}
 use Rattle.units.specs.Units.{lent}
@@ -30,7 +30,7 @@ use Rattle.c_cycle.specs.declared.AnswerNumbers.{AnswerNumbers}
 use Rattle.c_cycle.specs.Values.{device_in, no_state, state_in, state_out}
 use Rattle.c_cycle.specs.Answers.{state_back, seen_out, value_out, answer_out, cycled, array_cycled}
 use Rattle.c_cycle.proofs.Border.{state_back_lem}
-use Rattle.c_ordinary.specs.Ordinary.{units_for, timed_in, Ordinary}
+use Rattle.c_ordinary.specs.Ordinary.{timed_in, Ordinary}
 use Rattle.c_ordinary.proofs.Sufficient.{fair_at}
 use Rattle.c_recording.specs.declared.RecordNumbers.{RecordNumbers}
 use Rattle.c_recording.specs.Records.{heard_in, kind_seen, bus_seen, record_in}
