@@ -11,9 +11,7 @@ use Rattle.c_records.specs.declared.BlockNumbers.{BlockNumbers}
 use Rattle.c_blocks.specs.Table.{lying}
 use Rattle.c_blocks.proofs.Table.{blocks_are}
 use Rattle.c_functions.specs.Geometry.{part_by, block_returned}
-use borrow.Author.Rules.{rules}
-use Rattle.c_functions.proofs.tb_block.Statement.{statement}
-use Rattle.c_functions.proofs.tb_block.Tie as tie
+use Rattle.c_functions.proofs.tb_block.Goals as goal
 
 -- a span as numbers
 abbrev numbers : Span → BlockNumbers
@@ -25,19 +23,9 @@ in_numbers true z a l = refl
 in_numbers false true a l = refl
 in_numbers false false a l = refl
 
-block_at_requires : tie.Need-block-at-requires
-block_at_requires c κs = search rules
-
-returns : tie.Need-returns
+pub returns : goal.returns
 unfolding block_returned no_block
-returns c = let a = c.before.args in
-    let e = c.block_at.ensures ∙ blocks_are a.part a.block in
+returns c = let a = c.args in
+    let e = c.block_at-span.ensures ∙ blocks_are a.part a.block in
     let p = part_by a.part in
     (λ i. numbers (e i)) ∙ in_numbers (unknown_part p) (eqb (length_of p a.block) 0) (start_of p a.block) (length_of p a.block)
-
-pub tb_block_spec : {M : Type 1} → statement M
-tb_block_spec =
-    tie.close
-    (tie.spec
-    block_at_requires
-    returns)
