@@ -15,7 +15,7 @@ returns-then-n-eq0 c =
     let both = told_made a.j a.array.now a.wanted.now a.scratch.now a.file.now a.asked a.polls.now a.addresses.now a.room.now (sym c.held_load_number-n.ensures ∙ c.if-n-eq0.true) _ c.fill_file.ensures _ _ _ _ (ap (λ (x : HeldLeft). x.ran) r) (ap (λ (x : HeldLeft). x.bytes) r) (ap (λ (x : HeldLeft). x.scratch) r) (ap (λ (x : HeldLeft). x.room) r) in record { result = both.0; array_left = both.1.0; wanted_left = both.1.1.0; scratch_left = both.1.1.1.0; room_left = both.1.1.1.1 }
 
 pub returns : goal.returns
-returns c = 
+returns c =
     let a = c.args in
     let s = c.held_load_number-n in
     let t = told_refused a.j a.array.now a.wanted.now a.scratch.now a.file.now a.asked a.polls.now a.addresses.now a.room.now s.result s.ensures c.if-n-eq0.false in
