@@ -1,4 +1,6 @@
 // Images of parts: a dump verified against a load file, a load into a dump, and the store of a dump.
+ghost use Rattle.std.specs.Prelude.{◌≡◌, length};
+
 use std::rt::{Env, Files};
 
 // A byte more than the longest image, and than the longest of a part with a store; and a block more than the longest file: so what is too
@@ -9,12 +11,19 @@ const STORED: usize = 131072 + 1;
 
 const ROOM: usize = file_codec::FILE + 512;
 
+// As many zeros as the longest image has bytes, and one more.
+fn blank() -> [u8; IMAGE]
+    ensures { IMAGE ≡ length result }
+{
+    [0; IMAGE]
+}
+
 // A verify. Arguments: an image of a part (a dump of its bytes), the device's number, the flash block, a load file, the menu letter, and
 // the mode: 0 byte, 1 word. One line is written: that the block holds the file, at which address it differs, or the refusal with its number
 // and words.
 pub(crate) fn verify<R: Env + Files + Print>(rt: &R, err: &impl Print) {
     let mut name = streams::buffer();
-    let mut image = [0u8; IMAGE];
+    let mut image = blank();
     let mut file = [0u8; ROOM];
     let a = streams::arg(rt, 2, &mut name);
     let n = match streams::read_file(rt, &name[..a], &mut image) {
@@ -69,7 +78,7 @@ pub(crate) fn verify<R: Env + Files + Print>(rt: &R, err: &impl Print) {
 // load leaves is written. Standard error says what the load took, or why there is none.
 pub(crate) fn load<R: Env + Files + Print>(rt: &R, err: &impl Print) {
     let mut name = streams::buffer();
-    let mut image = [0u8; IMAGE];
+    let mut image = blank();
     let mut file = [0u8; ROOM];
     let a = streams::arg(rt, 2, &mut name);
     let n = match streams::read_file(rt, &name[..a], &mut image) {
