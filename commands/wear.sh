@@ -59,6 +59,10 @@ for file in "${traces[@]}"; do
         held[${#names[@]}]=${bytes?}
         exec {from}< <(give "$bytes")
         name=/dev/fd/$from
+    elif [[ $file == *[!\ -~]* ]] && [ -r "$file" ]; then
+        # the program opens names in UTF-8 alone, so one with a byte above ASCII is handed over open
+        exec {from}< "$file"
+        name=/dev/fd/$from
     fi
     names+=("$name")
 done
