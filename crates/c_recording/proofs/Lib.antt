@@ -3,6 +3,7 @@ pub mod Claims
 pub mod Holding
 pub mod Knowing
 pub mod Lasting
+pub mod LentAgain
 pub mod Moving
 pub mod Numbers
 pub mod Unique
