@@ -151,7 +151,7 @@ same("NDEBUG in the code of the header", "NDEBUG" in plain, False)
 
 # parts: size and blocks, in bytes, from the description of each
 table = text("device/specs/Parts.antt")
-more = re.search(r"l0 = (\d+); l1 = (\d+); l2 = (\d+); l3 = (\d+); l4 = (\d+); l5 = further; l6 = further", table).groups()
+more = re.search(r"lengths = (\d+) ∷ (\d+) ∷ (\d+) ∷ (\d+) ∷ (\d+) ∷ further ∷ further ∷ \[\]", table).groups()
 parts = {}
 for number, kind, lengths, top in re.findall(r"(?:eqb n (\d+) then|else) (four|more)_blocks ([\d ]+) (true|false)", table):
     number = int(number) if number else len(parts) + 1

@@ -43,9 +43,9 @@ use Rattle.loader_run.specs.Runs.{lent_rows, lent_number, RunLeft, run_first, le
 use Rattle.loader_run.proofs.Lending.{lent_refused}
 use Rattle.loader_from_file.specs.Loads.{load_rows, load_number, load_left}
 use Rattle.loader_from_file.proofs.Leaving as load-leaving
-use Rattle.file_codec.specs.File.{Outcome, refused, made, limit, in_room, left_in, reader_of, writer_of, read_as, written_as}
+use Rattle.file_codec.specs.File.{Outcome, refused, made, limit, in_room, left_in, reader_of, writer_of}
 use Rattle.c_cycle.specs.Values.{part_in, device_in, pins_in, no_state, state_in, state_out, cycle_in, cycle_out, device_out}
-use Rattle.c_records.specs.Records.{no_record, loader_in, loader_out, loader_back, saying_out, ran_out, written_out, read_out, job_in}
+use Rattle.c_records.specs.Records.{no_record, loader_in, loader_out, loader_back, saying_out, ran_out, sized_by, job_in}
 use Rattle.c_cycle.specs.Answers.{state_back, seen_out, value_out, answer_out, cycled, array_cycled}
 use Rattle.c_functions.specs.Calls.{word_mode_of, started_at, run_at_of, array_run_at, scratch_run_at, file_at_of, array_file_at, wanted_file_at, scratch_file_at, written_of, file_left, file_read, payload_left, ran_numbers}
 use Rattle.c_steps.specs.Steps.{word_in, stepped_of, scratch_stepped}
@@ -232,21 +232,17 @@ module _ (work : Work) (d : DeviceNumbers) (s : StateNumbers) (rp wp vpp k : ℕ
       (load_refused f asked 3 (λ (z : 3 ≡ 0). (omega arith)) (foremost_given h)).0
 
 -- the writer's and the reader's refusals
-write_left : (o : Outcome) (out : List ℕ) → ((written_out (written_as o)).number ≡ 0 → ⊥) → ((written_out (written_as o)).length ≡ 0) × (left_in out o ≡ out)
-write_left (refused n) out z = (refl, refl)
-write_left (made bytes) out z = absurd (z refl)
-
-read_left : (o : Outcome) (out : List ℕ) → ((read_out (read_as o)).number ≡ 0 → ⊥) → ((read_out (read_as o)).length ≡ 0) × (left_in out o ≡ out)
-read_left (refused n) out z = (refl, refl)
-read_left (made bytes) out z = absurd (z refl)
+refused_left : (o : Outcome) (out : List ℕ) → ((sized_by o).number ≡ 0 → ⊥) → ((sized_by o).length ≡ 0) × (left_in out o ≡ out)
+refused_left (refused n) out z = (refl, refl)
+refused_left (made bytes) out z = absurd (z refl)
 
 pub write_refused : (letter : ℕ) (p out : List ℕ) → ((written_of letter p out).number ≡ 0 → ⊥) → ((written_of letter p out).length ≡ 0) × (file_left letter p out ≡ out)
 unfolding written_of file_left
-write_refused letter p out z = write_left (in_room (length out) (writer_of limit letter p)) out z
+write_refused letter p out z = refused_left (in_room (length out) (writer_of limit letter p)) out z
 
 pub read_refused : (f : List ℕ) (asked : ℕ) (out : List ℕ) → ((file_read f asked out).number ≡ 0 → ⊥) → ((file_read f asked out).length ≡ 0) × (payload_left f asked out ≡ out)
 unfolding file_read payload_left
-read_refused f asked out z = read_left (in_room (length out) (reader_of limit f asked)) out z
+read_refused f asked out z = refused_left (in_room (length out) (reader_of limit f asked)) out z
 
 -- a part that is known in word mode is known in byte mode, and has the same blocks
 still_known : (n : ℕ) → unknown_part (record { number = n; word = true }) ≡ false → unknown_part (part_by n) ≡ false

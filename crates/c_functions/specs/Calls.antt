@@ -4,9 +4,9 @@ use Rattle.units.specs.Units.{units, lent}
 use Rattle.loader.specs.declared.Response.{Response}
 use Rattle.loader_steps.specs.Front.{start_response}
 use Rattle.loader_run.specs.declared.Ran.{Ran}
-use Rattle.file_codec.specs.File.{limit, in_room, left_in, reader_of, writer_of, read_as, written_as}
+use Rattle.file_codec.specs.File.{limit, in_room, left_in, reader_of, writer_of}
 use Rattle.c_cycle.specs.Values.{state_out, part_in, device_in, pins_in, wear_in, cycle_in}
-use Rattle.c_records.specs.Records.{loader_out, saying_out, written_out, read_out, ran_out, job_in}
+use Rattle.c_records.specs.Records.{loader_out, saying_out, sized_by, ran_out, job_in}
 use Rattle.c_cycle.specs.declared.DeviceNumbers.{DeviceNumbers}
 use Rattle.c_cycle.specs.declared.WearNumbers.{WearNumbers}
 use Rattle.c_cycle.specs.declared.StateNumbers.{StateNumbers}
@@ -155,7 +155,7 @@ scratch_verify_file d s rp wp vpp k f asked xs w sc = scratch_file_at Verify d s
 
 -- the writer and the reader: a number and a length, and the buffer that was lent
 unfoldable pub written_of : ℕ → List ℕ → List ℕ → SizedNumbers
-written_of letter p out = written_out (written_as (in_room (length out) (writer_of limit letter p)))
+written_of letter p out = sized_by (in_room (length out) (writer_of limit letter p))
 
 -- what the writer leaves in the buffer
 unfoldable pub file_left : ℕ → List ℕ → List ℕ → List ℕ
@@ -163,7 +163,7 @@ file_left letter p out = left_in out (in_room (length out) (writer_of limit lett
 
 -- what the reader answers: a number and a length
 unfoldable pub file_read : List ℕ → ℕ → List ℕ → SizedNumbers
-file_read f asked out = read_out (read_as (in_room (length out) (reader_of limit f asked)))
+file_read f asked out = sized_by (in_room (length out) (reader_of limit f asked))
 
 -- what the reader leaves in the buffer
 unfoldable pub payload_left : List ℕ → ℕ → List ℕ → List ℕ

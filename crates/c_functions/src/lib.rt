@@ -356,8 +356,8 @@ pub extern "C" fn tb_file_write(letter: u8, payload: &[u8], file: &mut [u8]) -> 
     ensures result { result ≡ written_of letter payload.now file.old }
     ensures file_left { file.new ≡ file_left letter payload.now file.old }
 {
-    let written = file_writer::write(letter, payload, file);
-    c_records::sizes::written_out(written)
+    let answer = file_writer::write(letter, payload, file);
+    c_records::sizes::sized_out(answer)
 }
 
 // The reader of a load file, for the letter asked.
@@ -366,8 +366,8 @@ pub extern "C" fn tb_file_read(letter: u8, file: &[u8], payload: &mut [u8]) -> S
     ensures result { result ≡ file_read file.now letter payload.old }
     ensures payload_left { payload.new ≡ payload_left file.now letter payload.old }
 {
-    let read = file_codec::read(file, letter, payload);
-    c_records::sizes::read_out(read)
+    let answer = file_codec::read(file, letter, payload);
+    c_records::sizes::sized_out(answer)
 }
 
 // The check over the first 510 bytes, or over all where there are fewer.

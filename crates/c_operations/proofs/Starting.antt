@@ -8,11 +8,13 @@ use lib.ListN.{length}
 use lib.Dec.{eqb, ltb}
 use lib.Bits.{bit_and, bit_or}
 use borrow.Author.Tests.{eq-eqb, ne_eqb, le-ltb}
-use Rattle.common.proofs.Choice.{if_false, and_none}
+use Rattle.common.proofs.Choice.{if_false, if_ind, and_none}
 use Rattle.units.specs.Units.{carried}
 use Rattle.std.specs.Prelude.{if◌then◌else◌}
 use Rattle.device.specs.Blocks.{holder}
-use Rattle.device.specs.Parts.{shape_of, lengths_of, size_in, mirrored, holder_in, block_in, block_of}
+use Rattle.device.specs.declared.Shape.{Shape}
+use Rattle.device.proofs.Rows.{by_rows}
+use Rattle.device.specs.Parts.{row_of, in_words, shape_of, lengths_of, size_in, mirrored, holder_in, block_in, block_of}
 use Rattle.device.specs.declared.Part.{Part}
 use Rattle.device.specs.declared.Device.{Device}
 use Rattle.model_types.specs.declared.Mode.TheVariants.{Status}
@@ -177,7 +179,18 @@ holder_most (l ∷ ls) p = go (ltb p l) (holder_most ls (p - l))
     go true h = omega arith
     go false h = omega (arith, h)
 
+-- every part has seven lengths
+seven_lengths : (part : Part) → length (lengths_of (shape_of part)) ≡ 7
+unfolding shape_of row_of in_words
+seven_lengths part =
+    let Long : Shape → Type 0 = λ s. length (lengths_of s) ≡ 7 in
+    if_ind Long part.word (in_words (row_of part.number)) (row_of part.number)
+    (λ e. by_rows (λ s. Long (in_words s)) refl refl refl refl refl refl refl refl refl part.number)
+    (λ e. by_rows Long refl refl refl refl refl refl refl refl refl part.number)
+
 -- for code: the number of a block is none of those that stand for something else
 pub block_most : (part : Part) (a : ℕ) → block_of part a ≤ 7
 unfolding block_of block_in holder_in
-block_most part a = holder_most (lengths_of (shape_of part)) (mirrored (shape_of part).top (size_in (shape_of part)) a)
+block_most part a =
+    let h = holder_most (lengths_of (shape_of part)) (mirrored (shape_of part).top (size_in (shape_of part)) a) in
+    omega (arith, h, seven_lengths part)

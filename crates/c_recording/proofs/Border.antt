@@ -1,4 +1,5 @@
 -- Recordings as numbers: there and back, what becomes of numbers that stand for no answer, and what a refusal gives.
+use Rattle.std.specs.Prelude.{Option, Some, None}
 use mathlib.Core.Path.{◌≡◌, refl, sym, ap, ◌∙◌}
 use mathlib.Core.Bool.{Bool, true, false}
 use mathlib.Core.List.{List, [], ◌∷◌}
@@ -12,8 +13,6 @@ use Rattle.units.specs.Units.{lent_in}
 use Rattle.device.specs.declared.Device.{Device}
 use Rattle.model_types.specs.declared.State.{State}
 use Rattle.model_judge.specs.Judging.{early, judge_of}
-use Rattle.recording.specs.declared.Heard.{Heard}
-use Rattle.recording.specs.declared.Heard.TheVariants.{Silence, Told}
 use Rattle.recording.specs.declared.Noted.{Noted}
 use Rattle.recording.specs.Recordings.{wrong_count, cuts_off, device_for, faulty}
 use Rattle.recording.proofs.Judging.{count_fault, cut_fault, refused_fault}
@@ -29,15 +28,15 @@ use Rattle.c_recording.specs.declared.RecordNumbers.{RecordNumbers}
 use Rattle.c_recording.specs.Records.{heard_in, kind_seen, bus_seen, record_in, records_in, seen_heard, value_heard, record_out, records_out, checked_numbers, checked_out, checked_returned, array_checked}
 
 -- an answer seen: out and in again, and its cycle keeps its kind
-heard_back : (h : Heard) → heard_in (seen_heard h) (value_heard h) ≡ h
+heard_back : (h : Option ℕ) → heard_in (seen_heard h) (value_heard h) ≡ h
 unfolding heard_in
-heard_back Silence = refl
-heard_back (Told v) = refl
+heard_back None = refl
+heard_back (Some v) = refl
 
-kind_kept : (h : Heard) (k : ℕ) → kind_seen (seen_heard h) k ≡ k
+kind_kept : (h : Option ℕ) (k : ℕ) → kind_seen (seen_heard h) k ≡ k
 unfolding kind_seen
-kind_kept Silence k = refl
-kind_kept (Told v) k = refl
+kind_kept None k = refl
+kind_kept (Some v) k = refl
 
 pub record_back : (r : Noted) → record_in (record_out r) ≡ r
 record_back r =

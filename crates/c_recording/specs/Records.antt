@@ -1,7 +1,5 @@
 -- Recordings as plain numbers: the records, and what the check of them answers.
-use Rattle.std.specs.Prelude.{List, [], ◌∷◌, ℕ, eqb, ltb, if◌then◌else◌}
-use Rattle.recording.specs.declared.Heard.{Heard}
-use Rattle.recording.specs.declared.Heard.TheVariants.{Silence, Told}
+use Rattle.std.specs.Prelude.{List, [], ◌∷◌, ℕ, eqb, ltb, if◌then◌else◌, Option, Some, None}
 use Rattle.recording.specs.declared.Noted.{Noted}
 use Rattle.recording_walk.specs.declared.Checked.{Checked}
 use Rattle.recording_walk.specs.Lists.{checked_of, bytes_checked}
@@ -14,8 +12,8 @@ use Rattle.c_recording.specs.declared.RecordNumbers.{RecordNumbers}
 use Rattle.c_recording.specs.declared.CheckedNumbers.{CheckedNumbers}
 
 -- the answer seen: 0 none, 1 data
-unfoldable pub heard_in : ℕ → ℕ → Heard
-heard_in seen value = if eqb seen 0 then Silence else Told value
+unfoldable pub heard_in : ℕ → ℕ → Option ℕ
+heard_in seen value = if eqb seen 0 then None else Some value
 
 -- the kind of a record's cycle; where the answer seen is neither of the two, a kind that is none, so that every rule refuses the cycle
 unfoldable pub kind_seen : ℕ → ℕ → ℕ
@@ -44,14 +42,14 @@ records_in [] = []
 records_in (n ∷ ns) = record_in n ∷ records_in ns
 
 -- a record's numbers, and a list's: without data the value is 0
-abbrev pub seen_heard : Heard → ℕ
-seen_heard Silence = 0
-seen_heard (Told v) = 1
+abbrev pub seen_heard : Option ℕ → ℕ
+seen_heard None = 0
+seen_heard (Some v) = 1
 
 -- the value of an answer that was recorded: its data, 0 without
-abbrev pub value_heard : Heard → ℕ
-value_heard Silence = 0
-value_heard (Told v) = v
+abbrev pub value_heard : Option ℕ → ℕ
+value_heard None = 0
+value_heard (Some v) = v
 
 -- a record as numbers
 abbrev pub record_out : Noted → RecordNumbers

@@ -639,11 +639,8 @@ pub extern "C" fn tb_recording(
         × (array.new ≡ array_checked device state list.now array.old) }
 {
     let mut w = begun(device, state, array.len());
-    let mut i: usize = 0;
-    while i < list.len() {
-        let r = list[i];
-        w = gone_on(array, w, r);
-        i += 1;
+    for r in list {
+        w = gone_on(array, w, *r);
     }
     ended(promised, array, w, state)
 }

@@ -6,16 +6,16 @@ ghost use Rattle.c_recording.specs.Records.{heard_in, kind_seen, bus_seen, recor
 use crate::{CheckedNumbers, RecordNumbers};
 use c_cycle::states::{DATA, NO_DATA};
 use c_cycle::{BusNumbers, StateNumbers};
-use recording::{Heard, Noted};
+use recording::Noted;
 use recording_walk::Checked;
 
-fn heard_in(seen: u8, value: u16) -> Heard
+fn heard_in(seen: u8, value: u16) -> Option<u16>
     ensures { result ≡ heard_in seen value }
 {
     if seen == NO_DATA {
-        return Heard::Silence;
+        return None;
     }
-    Heard::Told(value)
+    Some(value)
 }
 
 // The kind of the cycle; where the answer seen is none that there is, a kind that is none.

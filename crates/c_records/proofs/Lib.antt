@@ -1,3 +1,4 @@
 pub mod Border
 pub mod Claims
+pub mod Outcomes
 pub mod Unique

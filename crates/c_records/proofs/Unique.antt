@@ -8,9 +8,9 @@ use Rattle.loader.specs.declared.Saying.{Saying}
 use Rattle.loader_run.specs.declared.Ran.{Ran}
 use Rattle.loader_run.specs.declared.Job.{Job}
 use Rattle.loader.specs.declared.Work.{Work}
-use Rattle.file_codec.specs.declared.Written.{Written}
-use Rattle.file_codec.specs.declared.ReadBack.{ReadBack}
-use Rattle.c_records.specs.Records.{loader_in, loader_out, job_in, ran_out, loader_back, saying_out, written_out, read_out}
+use Rattle.std.specs.Prelude.{Result}
+use Rattle.file_check.specs.declared.refusal.FileRefusal.{FileRefusal}
+use Rattle.c_records.specs.Records.{loader_in, loader_out, job_in, ran_out, loader_back, saying_out, sized_out}
 use Rattle.c_cycle.specs.declared.DeviceNumbers.{DeviceNumbers}
 use Rattle.c_cycle.specs.declared.StateNumbers.{StateNumbers}
 use Rattle.c_records.specs.declared.LoaderNumbers.{LoaderNumbers}
@@ -36,8 +36,5 @@ loader_back_unique n l = only (loader_back n l)
 pub saying_out_unique : (saying : Saying) → Unique (λ (r : SayingNumbers). r ≡ saying_out saying)
 saying_out_unique saying = only (saying_out saying)
 
-pub written_out_unique : (written : Written) → Unique (λ (r : SizedNumbers). r ≡ written_out written)
-written_out_unique written = only (written_out written)
-
-pub read_out_unique : (read : ReadBack) → Unique (λ (r : SizedNumbers). r ≡ read_out read)
-read_out_unique read = only (read_out read)
+pub sized_out_unique : (answer : Result ℕ FileRefusal) → Unique (λ (r : SizedNumbers). r ≡ sized_out answer)
+sized_out_unique answer = only (sized_out answer)

@@ -1,5 +1,5 @@
 -- The loader's record, and what start, step, run, load, writer and reader say, as plain numbers.
-use Rattle.std.specs.Prelude.{Bool, not, ◌&&◌, ◌||◌, ℕ, eqb, ltb, if◌then◌else◌}
+use Rattle.std.specs.Prelude.{Bool, not, ◌&&◌, ◌||◌, ℕ, eqb, ltb, if◌then◌else◌, length, Result, Ok, Err}
 use Rattle.c_cycle.specs.declared.DeviceNumbers.{DeviceNumbers}
 use Rattle.c_cycle.specs.declared.StateNumbers.{StateNumbers}
 use Rattle.c_cycle.specs.declared.BusNumbers.{BusNumbers}
@@ -15,10 +15,9 @@ use Rattle.loader_run.specs.declared.Ran.{Ran}
 use Rattle.loader_run.specs.declared.Job.{Job}
 use Rattle.loader_run.specs.Runs.{job_of}
 use Rattle.loader.specs.declared.Work.{Work}
-use Rattle.file_codec.specs.declared.Written.{Written}
-use Rattle.file_codec.specs.declared.Written.TheVariants.{Wrote, Refused as WriteRefused}
-use Rattle.file_codec.specs.declared.ReadBack.{ReadBack}
-use Rattle.file_codec.specs.declared.ReadBack.TheVariants.{Gave, Refused as ReadRefused}
+use Rattle.file_check.specs.Refusal.{number_of}
+use Rattle.file_check.specs.declared.refusal.FileRefusal.{FileRefusal}
+use Rattle.file_codec.specs.File.{Outcome, refused, made}
 use Rattle.c_cycle.specs.Values.{cycle_out, device_in, state_in, part_in, pins_in, flag_out}
 use Rattle.c_records.specs.declared.SayingNumbers.{SayingNumbers}
 use Rattle.c_records.specs.declared.RanNumbers.{RanNumbers}
@@ -124,15 +123,15 @@ saying_out (SayRefused n) = saying_at 2 n 0 no_cycle
 abbrev pub sized_as : ℕ → ℕ → SizedNumbers
 sized_as number size = record { number = number; length = size }
 
--- what the writer made, as numbers
-abbrev pub written_out : Written → SizedNumbers
-written_out (Wrote size) = sized_as 0 size
-written_out (WriteRefused n) = sized_as n 0
+-- what writer or reader answered, as numbers
+abbrev pub sized_out : Result ℕ FileRefusal → SizedNumbers
+sized_out (Ok size) = sized_as 0 size
+sized_out (Err refusal) = sized_as (number_of refusal) 0
 
--- what the reader gave, as numbers
-abbrev pub read_out : ReadBack → SizedNumbers
-read_out (Gave size) = sized_as 0 size
-read_out (ReadRefused n) = sized_as n 0
+-- the outcome of writer or reader, as numbers
+abbrev pub sized_by : Outcome → SizedNumbers
+sized_by (made bytes) = sized_as 0 (length bytes)
+sized_by (refused n) = sized_as n 0
 
 -- what is run, by the numbers of the device, its state and the levels on it
 abbrev pub job_in : Work → DeviceNumbers → StateNumbers → ℕ → ℕ → ℕ → ℕ → Job

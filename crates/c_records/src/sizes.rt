@@ -1,35 +1,22 @@
 // What writer and reader answer, as plain numbers.
 ghost use Rattle.std.specs.Prelude.{◌≡◌};
-ghost use Rattle.c_records.specs.Records.{sized_as, written_out, read_out};
+ghost use Rattle.c_records.specs.Records.{sized_out};
 
 use crate::SizedNumbers;
-use file_codec::{ReadBack, Written};
+use file_check::refusal::FileRefusal;
 
-fn sized_as(number: u8, size: usize) -> SizedNumbers
-    ensures { result ≡ sized_as number size }
+// What writer or reader answered, as numbers.
+pub fn sized_out(answer: Result<usize, FileRefusal>) -> SizedNumbers
+    ensures { result ≡ sized_out answer }
 {
-    SizedNumbers {
-        number: number,
-        length: size,
-    }
-}
-
-// What the writer made, as numbers.
-pub fn written_out(written: Written) -> SizedNumbers
-    ensures { result ≡ written_out written }
-{
-    match written {
-        Written::Wrote(size) => sized_as(0, size),
-        Written::Refused(n) => sized_as(n, 0),
-    }
-}
-
-// What the reader gave, as numbers.
-pub fn read_out(read: ReadBack) -> SizedNumbers
-    ensures { result ≡ read_out read }
-{
-    match read {
-        ReadBack::Gave(size) => sized_as(0, size),
-        ReadBack::Refused(n) => sized_as(n, 0),
+    match answer {
+        Ok(size) => SizedNumbers {
+            number: 0,
+            length: size,
+        },
+        Err(refusal) => SizedNumbers {
+            number: refusal.number(),
+            length: 0,
+        },
     }
 }

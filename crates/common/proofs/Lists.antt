@@ -1,14 +1,16 @@
 -- Laws of a list that is copied, filled or laid over another, turn by turn.
-use mathlib.Core.Path.{◌≡◌, refl, sym, ◌∙◌, ap}
+use mathlib.Core.Path.{◌≡◌, refl, sym}
 use mathlib.Core.List.{List, append-nil}
-use Prim.Native.Nat.{ℕ, suc, ◌+◌, ◌≤◌, ◌<◌, min}
+use Prim.Native.Nat.{ℕ, suc, ◌+◌, ◌≤◌, ◌<◌}
 use native.Mathlib.Omega.{arith}
+use Rattle.std.proofs.lemmas.Grind.{common_steps}
 use native.Mathlib.Numerals.{add-one}
-use lib.ListN.{length, get_or, take, drop, set, replicate, drop_of_length-le, get_or-replicate, length-replicate}
-use lib.Seq.{take-suc, drop-cons, set_at, append_snoc, length-take-le, drop-length, take_all, take-length}
 use mathlib.Core.Bool.{Bool, true, false}
+use Prim.Native.Nat.{min}
 use lib.Dec.{leb}
 use borrow.Author.Tests.{leb-true, leb-false}
+use lib.ListN.{drop_of_length-le, length, get_or, take, drop, set}
+use lib.Seq.{take-length, take-suc, drop-cons, set_at, append_snoc, length-take-le, drop-length, take_all}
 use Rattle.common.specs.Lists.{copied, overwritten}
 
 -- one turn more of such a loop
@@ -16,6 +18,10 @@ pub overwritten_more : (zs xs : List ℕ) (i : ℕ) → i < length zs → i < le
 overwritten_more zs xs i h k =
     rw (add-one i, take-suc zs i 0 h, drop-cons xs i 0 k, set_at (take i zs) (get_or xs i 0) (drop (suc i) xs) (get_or zs i 0) i (length-take-le i zs (omega arith)))
     (sym (append_snoc (take i zs) (get_or zs i 0) (drop (suc i) xs)))
+
+-- such a loop has not met the place that it meets next
+pub overwritten_here : (zs xs : List ℕ) (i : ℕ) → i < length zs → get_or (overwritten i zs xs) i 0 ≡ get_or xs i 0
+overwritten_here zs xs i h = grind (arith, common_steps)
 
 -- a loop that laid all of zs, which is as long as xs, leaves zs
 pub overwritten_all : (zs xs : List ℕ) → length zs ≡ length xs → overwritten (length xs) zs xs ≡ zs
@@ -38,9 +44,3 @@ copied_least dst src = go (leb (length dst) (length src)) refl
         let h : length src < length dst = leb-false _ _ e in
         let m : min (length dst) (length src) ≡ length src = omega arith in
         rw (m, take-length src, take_all (length dst) src (omega arith)) refl
-
--- one turn more of a loop that fills
-pub filled_more : (b : ℕ) (xs : List ℕ) (i : ℕ) → i < length xs → set (overwritten i (replicate (length xs) b) xs) i b ≡ overwritten (i + 1) (replicate (length xs) b) xs
-filled_more b xs i h =
-    ap (λ (v : ℕ). set (overwritten i (replicate (length xs) b) xs) i v) (sym (get_or-replicate (length xs) i b 0 h))
-    ∙ overwritten_more (replicate (length xs) b) xs i (omega (arith, length-replicate (length xs) b)) h

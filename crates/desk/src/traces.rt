@@ -1,5 +1,7 @@
 // Traces and scripts on bench T, each from standard input. The answers go to standard output.
 
+use engines::{Rules, Table};
+
 // A trace is replayed, and the answers are written. Lines past 9999 do not matter.
 pub(crate) fn trace(rt: &(impl Input + Print), err: &impl Print) {
     let mut text = [0u8; 199980];
@@ -7,7 +9,7 @@ pub(crate) fn trace(rt: &(impl Input + Print), err: &impl Print) {
     let residue = [255u8; 16384];
     let mut out = [0u8; 79991];
     let n = streams::read_input(rt, &mut text);
-    let r = trace_replay::replay(engines::RULES, &text[..n], &mut array, &residue, &mut out);
+    let r = trace_replay::replay::<Rules>(&text[..n], &mut array, &residue, &mut out);
     let m = r.used;
     if streams::write_all(rt, &out[..m]) {
         streams::write_all(err, b".");
@@ -21,7 +23,7 @@ pub(crate) fn table(rt: &(impl Input + Print), err: &impl Print) {
     let residue = [255u8; 16384];
     let mut out = [0u8; 79991];
     let n = streams::read_input(rt, &mut text);
-    let r = trace_replay::replay(engines::TABLE, &text[..n], &mut array, &residue, &mut out);
+    let r = trace_replay::replay::<Table>(&text[..n], &mut array, &residue, &mut out);
     let m = r.used;
     if streams::write_all(rt, &out[..m]) {
         streams::write_all(err, b".");

@@ -34,18 +34,13 @@ pub(crate) fn wear<R: Env + Files + Print>(rt: &R, err: &impl Print) {
     let mut out = [0u8; 512];
     let mut counting = wear_answer::none();
     let mut told = true;
-    let mut k = 1;
-    let mut i = 2;
-    while i < n {
+    for i in 2..n {
         let a = streams::arg(rt, i, &mut name);
         let (m, ended) = front(rt, &name[..a], &mut text);
-        let r = wear_answer::one_more(counting, &mut out, k, &text[..m], ended);
+        let r = wear_answer::one_more(counting, &mut out, i - 1, &text[..m], ended);
         let u = r.used;
         counting = r.counting;
-        let ok = streams::write_all(rt, &out[..u]);
-        told = told & ok;
-        k = i;
-        i += 1;
+        told &= streams::write_all(rt, &out[..u]);
     }
     let m = wear_answer::finish(counting, &mut out);
     let ok = streams::write_all(rt, &out[..m]);

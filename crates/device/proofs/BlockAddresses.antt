@@ -3,13 +3,14 @@ use mathlib.Core.Path.{◌≡◌, refl}
 use mathlib.Core.Bool.{Bool, true, false}
 use Prim.Native.Nat.{ℕ, ◌+◌, ◌-◌, ◌≤◌, ◌<◌}
 use native.Mathlib.Omega.{arith}
-use lib.Dec.{eqb, lit≤}
+use lib.Dec.{lit≤}
 use Rattle.std.specs.Prelude.{if◌then◌else◌}
 use Rattle.common.proofs.Choice.{if_ind}
 use Rattle.device.specs.Blocks.{units_of_all, length_at, offset_at, holder, Lies}
-use Rattle.device.specs.Parts.{four_blocks, more_blocks, row_of, in_words, shape_of, lengths_of, size_in, length_in, offset_in, holder_in, mirrored, start_in, block_in, Holds, size_of}
+use Rattle.device.specs.Parts.{row_of, in_words, shape_of, lengths_of, size_in, length_in, offset_in, holder_in, mirrored, start_in, block_in, Holds, size_of}
 use Rattle.device.specs.declared.Part.{Part}
 use Rattle.device.specs.declared.Shape.{Shape}
+use Rattle.device.proofs.Rows.{by_rows}
 use Rattle.device.proofs.Cover.{ends_inside, covered, alone}
 
 -- a block ends inside the array
@@ -66,61 +67,28 @@ Small s = units_of_all (lengths_of s) ≤ 524288
 
 row_small : (n : ℕ) → Small (row_of n)
 unfolding row_of
-row_small n =
-    let H : Shape = more_blocks 131072 false 0x4471 in
-    let G : Shape = if eqb n 7 then more_blocks 131072 true 0x4470 else H in
-    let F : Shape = if eqb n 6 then more_blocks 0 false 0x2275 else G in
-    let E : Shape = if eqb n 5 then more_blocks 0 true 0x2274 else F in
-    let D : Shape = if eqb n 4 then four_blocks 1024 512 14336 false 0x95 else E in
-    let C : Shape = if eqb n 3 then four_blocks 1024 512 14336 true 0x94 else D in
-    let B : Shape = if eqb n 2 then four_blocks 8192 4096 114688 false 0x95 else C in
-    if_ind Small (eqb n 1) (four_blocks 8192 4096 114688 true 0x94) B (λ e. lit≤ tt) (λ e.
-    if_ind Small (eqb n 2) (four_blocks 8192 4096 114688 false 0x95) C (λ e. lit≤ tt) (λ e.
-    if_ind Small (eqb n 3) (four_blocks 1024 512 14336 true 0x94) D (λ e. lit≤ tt) (λ e.
-    if_ind Small (eqb n 4) (four_blocks 1024 512 14336 false 0x95) E (λ e. lit≤ tt) (λ e.
-    if_ind Small (eqb n 5) (more_blocks 0 true 0x2274) F (λ e. lit≤ tt) (λ e.
-    if_ind Small (eqb n 6) (more_blocks 0 false 0x2275) G (λ e. lit≤ tt) (λ e.
-    if_ind Small (eqb n 7) (more_blocks 131072 true 0x4470) H (λ e. lit≤ tt) (λ e. lit≤ tt)))))))
+row_small = by_rows Small (lit≤ tt) (lit≤ tt) (lit≤ tt) (lit≤ tt) (lit≤ tt) (lit≤ tt) (lit≤ tt) (lit≤ tt) (lit≤ tt)
 
-words_small : (s : Shape) → Small s → Small (in_words s)
-unfolding in_words
-words_small s h = omega arith
+words_small : (n : ℕ) → Small (in_words (row_of n))
+unfolding row_of in_words
+words_small = by_rows (λ (s : Shape). Small (in_words s)) (lit≤ tt) (lit≤ tt) (lit≤ tt) (lit≤ tt) (lit≤ tt) (lit≤ tt) (lit≤ tt) (lit≤ tt) (lit≤ tt)
 
 pub size_small : (p : Part) → size_of p ≤ 524288
 unfolding size_of shape_of size_in
 size_small p =
-    if_ind Small p.word (in_words (row_of p.number)) (row_of p.number) (λ e. words_small (row_of p.number) (row_small p.number)) (λ e. row_small p.number)
+    if_ind Small p.word (in_words (row_of p.number)) (row_of p.number) (λ e. words_small p.number) (λ e. row_small p.number)
 
--- every part has some units: its boot block has at least 1,024 bytes
-first_some : (n : ℕ) → 1024 ≤ (row_of n).l0
-unfolding row_of
-first_some n =
-    let P : Shape → Type 0 = λ s. 1024 ≤ s.l0 in
-    let H : Shape = more_blocks 131072 false 0x4471 in
-    let G : Shape = if eqb n 7 then more_blocks 131072 true 0x4470 else H in
-    let F : Shape = if eqb n 6 then more_blocks 0 false 0x2275 else G in
-    let E : Shape = if eqb n 5 then more_blocks 0 true 0x2274 else F in
-    let D : Shape = if eqb n 4 then four_blocks 1024 512 14336 false 0x95 else E in
-    let C : Shape = if eqb n 3 then four_blocks 1024 512 14336 true 0x94 else D in
-    let B : Shape = if eqb n 2 then four_blocks 8192 4096 114688 false 0x95 else C in
-    if_ind P (eqb n 1) (four_blocks 8192 4096 114688 true 0x94) B (λ e. lit≤ tt) (λ e.
-    if_ind P (eqb n 2) (four_blocks 8192 4096 114688 false 0x95) C (λ e. lit≤ tt) (λ e.
-    if_ind P (eqb n 3) (four_blocks 1024 512 14336 true 0x94) D (λ e. lit≤ tt) (λ e.
-    if_ind P (eqb n 4) (four_blocks 1024 512 14336 false 0x95) E (λ e. lit≤ tt) (λ e.
-    if_ind P (eqb n 5) (more_blocks 0 true 0x2274) F (λ e. lit≤ tt) (λ e.
-    if_ind P (eqb n 6) (more_blocks 0 false 0x2275) G (λ e. lit≤ tt) (λ e.
-    if_ind P (eqb n 7) (more_blocks 131072 true 0x4470) H (λ e. lit≤ tt) (λ e. lit≤ tt)))))))
+-- every part has some units
+row_some : (n : ℕ) → 0 < size_in (row_of n)
+unfolding row_of size_in
+row_some = by_rows (λ (s : Shape). 0 < size_in s) (lit≤ tt) (lit≤ tt) (lit≤ tt) (lit≤ tt) (lit≤ tt) (lit≤ tt) (lit≤ tt) (lit≤ tt) (lit≤ tt)
 
-size_in_lem : (s : Shape) → 1024 ≤ s.l0 → 0 < size_in s
-unfolding size_in
-size_in_lem s h = omega arith
-
-size_words : (s : Shape) → 1024 ≤ s.l0 → 0 < size_in (in_words s)
-unfolding size_in in_words
-size_words s h = omega arith
+words_some : (n : ℕ) → 0 < size_in (in_words (row_of n))
+unfolding row_of in_words size_in
+words_some = by_rows (λ (s : Shape). 0 < size_in (in_words s)) (lit≤ tt) (lit≤ tt) (lit≤ tt) (lit≤ tt) (lit≤ tt) (lit≤ tt) (lit≤ tt) (lit≤ tt) (lit≤ tt)
 
 pub size_some : (p : Part) → 0 < size_of p
 unfolding size_of shape_of
 size_some p =
     if_ind (λ (s : Shape). 0 < size_in s) p.word (in_words (row_of p.number)) (row_of p.number)
-    (λ e. size_words (row_of p.number) (first_some p.number)) (λ e. size_in_lem (row_of p.number) (first_some p.number))
+    (λ e. words_some p.number) (λ e. row_some p.number)

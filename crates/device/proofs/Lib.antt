@@ -4,3 +4,4 @@ pub mod BlockAddresses
 pub mod TwoWidths
 pub mod Claims
 pub mod Unique
+pub mod Halves

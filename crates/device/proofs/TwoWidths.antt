@@ -4,12 +4,12 @@ use mathlib.Core.Bool.{Bool, true, false}
 use mathlib.Core.List.{List, [], ◌∷◌}
 use Prim.Native.Nat.{ℕ, zero, suc, ◌+◌, ◌-◌, ◌*◌, ◌≤◌, ◌<◌}
 use native.Mathlib.Omega.{arith}
-use lib.Dec.{eqb, ltb}
+use lib.Dec.{ltb}
 use borrow.Author.Tests.{lt-ltb, le-ltb, ltb-true, ltb-false}
 use Rattle.std.specs.Prelude.{if◌then◌else◌}
-use Rattle.common.proofs.Choice.{if_ind}
+use Rattle.device.proofs.Rows.{by_rows}
 use Rattle.device.specs.Blocks.{units_of_all, length_at, offset_at, holder}
-use Rattle.device.specs.Parts.{four_blocks, more_blocks, row_of, in_words, shape_of, lengths_of, size_in, length_in, offset_in, holder_in, mirrored, start_in, block_in, size_of, length_of, start_of, block_of}
+use Rattle.device.specs.Parts.{row_of, in_words, shape_of, lengths_of, size_in, length_in, offset_in, holder_in, mirrored, start_in, block_in, size_of, length_of, start_of, block_of}
 use Rattle.device.specs.declared.Part.{Part}
 use Rattle.device.specs.declared.Shape.{Shape}
 
@@ -46,21 +46,7 @@ Even s = lengths_of s ≡ twice (lengths_of (in_words s))
 
 even : (n : ℕ) → Even (row_of n)
 unfolding row_of in_words
-even n =
-    let H : Shape = more_blocks 131072 false 0x4471 in
-    let G : Shape = if eqb n 7 then more_blocks 131072 true 0x4470 else H in
-    let F : Shape = if eqb n 6 then more_blocks 0 false 0x2275 else G in
-    let E : Shape = if eqb n 5 then more_blocks 0 true 0x2274 else F in
-    let D : Shape = if eqb n 4 then four_blocks 1024 512 14336 false 0x95 else E in
-    let C : Shape = if eqb n 3 then four_blocks 1024 512 14336 true 0x94 else D in
-    let B : Shape = if eqb n 2 then four_blocks 8192 4096 114688 false 0x95 else C in
-    if_ind Even (eqb n 1) (four_blocks 8192 4096 114688 true 0x94) B (λ e. refl) (λ e.
-    if_ind Even (eqb n 2) (four_blocks 8192 4096 114688 false 0x95) C (λ e. refl) (λ e.
-    if_ind Even (eqb n 3) (four_blocks 1024 512 14336 true 0x94) D (λ e. refl) (λ e.
-    if_ind Even (eqb n 4) (four_blocks 1024 512 14336 false 0x95) E (λ e. refl) (λ e.
-    if_ind Even (eqb n 5) (more_blocks 0 true 0x2274) F (λ e. refl) (λ e.
-    if_ind Even (eqb n 6) (more_blocks 0 false 0x2275) G (λ e. refl) (λ e.
-    if_ind Even (eqb n 7) (more_blocks 131072 true 0x4470) H (λ e. refl) (λ e. refl)))))))
+even = by_rows Even refl refl refl refl refl refl refl refl refl
 
 -- a part in byte mode, and in word mode
 abbrev pub in_bytes : ℕ → Part

@@ -1,6 +1,6 @@
 -- The parts we load, each by a short description, and all that follows from it.
 use Rattle.std.specs.Prelude.{Bool, true, false, not, ◌&&◌, ◌||◌, List, [], ◌∷◌, ℕ, ◌+◌, ◌-◌, ◌/◌, ◌%◌, ◌≤◌, ◌<◌, eqb, ltb, leb}
-use Rattle.std.specs.Prelude.{if◌then◌else◌}
+use Rattle.std.specs.Prelude.{if◌then◌else◌, map}
 use Rattle.device.specs.Blocks.{units_of_all, length_at, offset_at, holder}
 use Rattle.device.specs.declared.Part.{Part}
 use Rattle.device.specs.declared.Device.{Device}
@@ -9,13 +9,13 @@ use Rattle.device.specs.declared.Shape.{Shape}
 -- four blocks outward from the boot block: boot, two parameter blocks, main (R-part-2, R-part-3)
 abbrev pub four_blocks : ℕ → ℕ → ℕ → Bool → ℕ → Shape
 four_blocks boot parameter main top code =
-    record { l0 = boot; l1 = parameter; l2 = parameter; l3 = main; l4 = 0; l5 = 0; l6 = 0; top = top; code = code }
+    record { lengths = boot ∷ parameter ∷ parameter ∷ main ∷ 0 ∷ 0 ∷ 0 ∷ []; top = top; code = code }
 
 -- seven blocks outward from the boot block: boot, two parameter blocks, a main block of 98,304 bytes and one of 131,072, and two
 -- further ones (R-part-4)
 abbrev pub more_blocks : ℕ → Bool → ℕ → Shape
 more_blocks further top code =
-    record { l0 = 16384; l1 = 8192; l2 = 8192; l3 = 98304; l4 = 131072; l5 = further; l6 = further; top = top; code = code }
+    record { lengths = 16384 ∷ 8192 ∷ 8192 ∷ 98304 ∷ 131072 ∷ further ∷ further ∷ []; top = top; code = code }
 
 -- the table of parts, lengths in bytes: 28F001BX-T and -B, bench T and B, 28F200BR-T and -B, 28F400BR-T and -B (R-part-1)
 unfoldable pub row_of : ℕ → Shape
@@ -31,18 +31,7 @@ row_of n =
 
 -- the same description in words: each length halved
 unfoldable pub in_words : Shape → Shape
-in_words s =
-    record {
-      l0 = s.l0 / 2;
-      l1 = s.l1 / 2;
-      l2 = s.l2 / 2;
-      l3 = s.l3 / 2;
-      l4 = s.l4 / 2;
-      l5 = s.l5 / 2;
-      l6 = s.l6 / 2;
-      top = s.top;
-      code = s.code;
-    }
+in_words s = record { lengths = map (λ l. l / 2) s.lengths; top = s.top; code = s.code }
 
 -- a part in its units: what one cycle carries, a byte, or in word mode a word (R-part-6)
 unfoldable pub shape_of : Part → Shape
@@ -50,7 +39,7 @@ shape_of p = if p.word then in_words (row_of p.number) else row_of p.number
 
 -- the block lengths of a description, outward from the boot block
 abbrev pub lengths_of : Shape → List ℕ
-lengths_of s = s.l0 ∷ s.l1 ∷ s.l2 ∷ s.l3 ∷ s.l4 ∷ s.l5 ∷ s.l6 ∷ []
+lengths_of s = s.lengths
 
 -- the units of all blocks of a description
 unfoldable pub size_in : Shape → ℕ

@@ -1,7 +1,8 @@
 // The parts we load: size, blocks and identifier, each derived from one short description of a part.
 #![tactic(auto)]
 
-ghost use Rattle.std.specs.Prelude.{◌≡◌, ◌-◌};
+ghost use Rattle.std.specs.Prelude.{◌≡◌, ◌-◌, ◌≤◌, length};
+ghost use Rattle.device.specs.Blocks.{units_of_all};
 ghost use Rattle.device.specs.Parts.{four_blocks, more_blocks, row_of, in_words, shape_of, is_large, size_in, length_in, offset_in};
 ghost use Rattle.device.specs.Parts.{holder_in};
 ghost use Rattle.device.specs.Parts.{mirrored, start_in, block_in, unknown_part, unknown_device, size_of, length_of, start_of, block_of};
@@ -25,17 +26,11 @@ pub struct Device {
     pub suspend: u8,
 }
 
-// A part's description: block lengths outward from the boot block (0 where there is none), whether the boot block is at
-// the top, and the identifier code.
+// A part's description: seven block lengths outward from the boot block (0 where there is none), whether the boot block is at the top,
+// and the identifier code.
 #[derive(Clone, Copy)]
 pub struct Shape {
-    pub l0: u32,
-    pub l1: u32,
-    pub l2: u32,
-    pub l3: u32,
-    pub l4: u32,
-    pub l5: u32,
-    pub l6: u32,
+    pub lengths: [u32; 7],
     pub top: bool,
     pub code: u16,
 }
@@ -68,15 +63,9 @@ fn four(boot: u32, parameter: u32, main: u32, top: bool, code: u16) -> Shape
     ensures { result ≡ four_blocks boot parameter main top code }
 {
     Shape {
-        l0: boot,
-        l1: parameter,
-        l2: parameter,
-        l3: main,
-        l4: 0,
-        l5: 0,
-        l6: 0,
-        top: top,
-        code: code,
+        lengths: [boot, parameter, parameter, main, 0, 0, 0],
+        top,
+        code,
     }
 }
 
@@ -85,240 +74,127 @@ fn more(further: u32, top: bool, code: u16) -> Shape
     ensures { result ≡ more_blocks further top code }
 {
     Shape {
-        l0: 16384,
-        l1: 8192,
-        l2: 8192,
-        l3: 98304,
-        l4: 131072,
-        l5: further,
-        l6: further,
-        top: top,
-        code: code,
+        lengths: [16384, 8192, 8192, 98304, 131072, further, further],
+        top,
+        code,
     }
 }
 
 // The table of parts, lengths in bytes; any other number is taken for 8.
+#[tactic(auto, unfolding(crate::specs::Parts::row_of))]
 fn row(n: u8) -> Shape
     ensures { result ≡ row_of n }
 {
-    if n < 1 {
-        return more(131072, false, 0x4471);
+    match n {
+        1 => four(8192, 4096, 114688, true, 0x94),
+        2 => four(8192, 4096, 114688, false, 0x95),
+        3 => four(1024, 512, 14336, true, 0x94),
+        4 => four(1024, 512, 14336, false, 0x95),
+        5 => more(0, true, 0x2274),
+        6 => more(0, false, 0x2275),
+        7 => more(131072, true, 0x4470),
+        _ => more(131072, false, 0x4471),
     }
-    if n < 3 {
-        if n == 1 {
-            return four(8192, 4096, 114688, true, 0x94);
-        }
-        return four(8192, 4096, 114688, false, 0x95);
-    }
-    if n < 5 {
-        if n == 3 {
-            return four(1024, 512, 14336, true, 0x94);
-        }
-        return four(1024, 512, 14336, false, 0x95);
-    }
-    if n < 7 {
-        if n == 5 {
-            return more(0, true, 0x2274);
-        }
-        return more(0, false, 0x2275);
-    }
-    if n == 7 {
-        return more(131072, true, 0x4470);
-    }
-    more(131072, false, 0x4471)
 }
 
 // The same in words.
 fn in_words(s: Shape) -> Shape
     ensures { result ≡ in_words s }
 {
-    let top = s.top;
-    Shape {
-        l0: s.l0 / 2,
-        l1: s.l1 / 2,
-        l2: s.l2 / 2,
-        l3: s.l3 / 2,
-        l4: s.l4 / 2,
-        l5: s.l5 / 2,
-        l6: s.l6 / 2,
-        top: top,
-        code: s.code,
+    let mut words = s;
+    for l in words.lengths.iter_mut() {
+        *l /= 2;
     }
+    words
 }
 
 // A part in its units.
+#[tactic(auto, unfolding(crate::specs::Parts::shape_of))]
 fn describe(p: Part) -> Shape
     ensures { result ≡ shape_of p }
 {
-    let word = p.word;
-    if word {
+    if p.word {
         return in_words(row(p.number));
     }
     row(p.number)
 }
 
+// The units of blocks that lie side by side.
+fn units_of_all(lengths: &[u32]) -> usize
+    requires { length lengths.now ≤ 7 }
+    ensures { result ≡ units_of_all lengths.now }
+{
+    let mut units = 0;
+    for l in lengths {
+        units += wide(*l);
+    }
+    units
+}
+
+#[tactic(auto, unfolding(crate::specs::Parts::size_in))]
 fn sum(s: Shape) -> usize
     ensures { result ≡ size_in s }
 {
-    wide(s.l0)
-        + (wide(s.l1) + (wide(s.l2) + (wide(s.l3) + (wide(s.l4) + (wide(s.l5) + wide(s.l6))))))
+    units_of_all(&s.lengths)
 }
 
 // The same of a row of the table, without reading it.
+#[tactic(auto, unfolding(crate::specs::Parts::row_of, crate::specs::Parts::size_in))]
 fn bytes(n: u8) -> usize
     ensures { result ≡ size_in (row_of n) }
 {
-    if n < 1 {
-        return 524288;
+    match n {
+        1 | 2 => 131072,
+        3 | 4 => 16384,
+        5 | 6 => 262144,
+        _ => 524288,
     }
-    if n < 3 {
-        return 131072;
-    }
-    if n < 5 {
-        return 16384;
-    }
-    if n < 7 {
-        return 262144;
-    }
-    524288
 }
 
+#[tactic(auto, unfolding(crate::specs::Parts::length_in))]
 fn length_at(s: Shape, k: u8) -> usize
     ensures { result ≡ length_in s k }
 {
-    if k < 1 {
-        return wide(s.l0);
+    match s.lengths.get(k as usize) {
+        Some(l) => wide(*l),
+        None => 0,
     }
-    if k < 2 {
-        return wide(s.l1);
-    }
-    if k < 3 {
-        return wide(s.l2);
-    }
-    if k < 4 {
-        return wide(s.l3);
-    }
-    if k < 5 {
-        return wide(s.l4);
-    }
-    if k < 6 {
-        return wide(s.l5);
-    }
-    if k < 7 {
-        return wide(s.l6);
-    }
-    0
 }
 
 // What lies before block k, counted from the boot end.
 fn offset_at(s: Shape, k: u8) -> usize
     ensures { result ≡ offset_in s k }
 {
-    let mut at = 0;
-    if k < 1 {
-        return at;
-    }
-    at = wide(s.l0);
-    if k < 2 {
-        return at;
-    }
-    at = at + wide(s.l1);
-    if k < 3 {
-        return at;
-    }
-    at = at + wide(s.l2);
-    if k < 4 {
-        return at;
-    }
-    at = at + wide(s.l3);
-    if k < 5 {
-        return at;
-    }
-    at = at + wide(s.l4);
-    if k < 6 {
-        return at;
-    }
-    at = at + wide(s.l5);
-    if k < 7 {
-        return at;
-    }
-    at + wide(s.l6)
+    let to = common::least(k as usize, 7);
+    units_of_all(&s.lengths[..to])
 }
 
 // What lies behind block k, counted from the boot end.
 fn behind_at(s: Shape, k: u8) -> usize
     ensures { result ≡ size_in s - offset_in s k - length_in s k }
 {
-    let mut at = 0;
-    if 5 < k {
-        return at;
-    }
-    at = wide(s.l6);
-    if 4 < k {
-        return at;
-    }
-    at = at + wide(s.l5);
-    if 3 < k {
-        return at;
-    }
-    at = at + wide(s.l4);
-    if 2 < k {
-        return at;
-    }
-    at = at + wide(s.l3);
-    if 1 < k {
-        return at;
-    }
-    at = at + wide(s.l2);
-    if 0 < k {
-        return at;
-    }
-    at + wide(s.l1)
+    let from = common::least(k as usize + 1, 7);
+    units_of_all(&s.lengths[from..])
 }
 
 // The block that holds a place counted from the boot end.
+#[tactic(auto, unfolding(crate::specs::Parts::holder_in))]
 fn holder_at(s: Shape, place: usize) -> u8
     ensures { result ≡ holder_in s place }
 {
-    let mut p = place;
-    let mut l = wide(s.l0);
-    if p < l {
-        return 0;
-    }
-    p = p - l;
-    l = wide(s.l1);
-    if p < l {
-        return 1;
-    }
-    p = p - l;
-    l = wide(s.l2);
-    if p < l {
-        return 2;
-    }
-    p = p - l;
-    l = wide(s.l3);
-    if p < l {
-        return 3;
-    }
-    p = p - l;
-    l = wide(s.l4);
-    if p < l {
-        return 4;
-    }
-    p = p - l;
-    l = wide(s.l5);
-    if p < l {
-        return 5;
-    }
-    p = p - l;
-    l = wide(s.l6);
-    if p < l {
-        return 6;
+    let mut rest = place;
+    for (k, l) in s.lengths.iter().enumerate() {
+        let length = wide(*l);
+        if rest < length {
+            return k as u8;
+        }
+        rest -= length;
     }
     7
 }
 
 // A place from the boot end as an address, or an address as such a place.
+#[tactic(auto, unfolding(crate::specs::Parts::mirrored))]
 fn mirror(top: bool, n: usize, a: usize) -> usize
     ensures { result ≡ mirrored top n a }
 {
@@ -329,11 +205,11 @@ fn mirror(top: bool, n: usize, a: usize) -> usize
 }
 
 // The first address of block k in a description.
+#[tactic(auto, unfolding(crate::specs::Parts::start_in))]
 fn start_at(s: Shape, k: u8) -> usize
     ensures { result ≡ start_in s k }
 {
-    let top = s.top;
-    if top {
+    if s.top {
         return behind_at(s, k);
     }
     offset_at(s, k)
@@ -350,6 +226,7 @@ fn span_at(s: Shape, k: u8) -> Span
 }
 
 // The block that holds an address in a description.
+#[tactic(auto, unfolding(crate::specs::Parts::block_in))]
 fn block_at(s: Shape, address: u32) -> u8
     ensures { result ≡ block_in s address }
 {
@@ -358,6 +235,7 @@ fn block_at(s: Shape, address: u32) -> u8
 }
 
 // Devices 5 to 8.
+#[tactic(auto, unfolding(crate::specs::Parts::is_large))]
 pub fn is_large(p: Part) -> bool
     ensures { result ≡ is_large p }
 {
@@ -365,14 +243,15 @@ pub fn is_large(p: Part) -> bool
 }
 
 // Refusal 1 of a part alone.
+#[tactic(auto, unfolding(crate::specs::Parts::unknown_part))]
 pub fn unknown_part(p: Part) -> bool
     ensures { result ≡ unknown_part p }
 {
-    let word = p.word;
-    (p.number == 0) | (8 < p.number) | (word & !is_large(p))
+    (p.number == 0) | (8 < p.number) | (p.word & !is_large(p))
 }
 
 // Refusal 1 of a device.
+#[tactic(auto, unfolding(crate::specs::Parts::unknown_device))]
 pub fn unknown_device(d: Device) -> bool
     ensures { result ≡ unknown_device d }
 {
@@ -380,18 +259,19 @@ pub fn unknown_device(d: Device) -> bool
 }
 
 // The units of the array.
+#[tactic(auto, using(crate::proofs::Rows::halved), unfolding(crate::specs::Parts::size_of, crate::specs::Parts::shape_of))]
 pub fn size(p: Part) -> usize
     ensures { result ≡ size_of p }
 {
-    let word = p.word;
     let n = bytes(p.number);
-    if word {
+    if p.word {
         return n / 2;
     }
     n
 }
 
 // The units of block k, 0 where there is none.
+#[tactic(auto, unfolding(crate::specs::Parts::length_of))]
 pub fn length(p: Part, k: u8) -> usize
     ensures { result ≡ length_of p k }
 {
@@ -399,6 +279,7 @@ pub fn length(p: Part, k: u8) -> usize
 }
 
 // The first address of block k.
+#[tactic(auto, unfolding(crate::specs::Parts::start_of))]
 pub fn start(p: Part, k: u8) -> usize
     ensures { result ≡ start_of p k }
 {
@@ -406,6 +287,7 @@ pub fn start(p: Part, k: u8) -> usize
 }
 
 // Where block k lies, by one description.
+#[tactic(auto, unfolding(crate::specs::Parts::start_of, crate::specs::Parts::length_of))]
 pub fn block_span(p: Part, k: u8) -> Span
     ensures { result ≡ span_of p k }
 {
@@ -413,6 +295,7 @@ pub fn block_span(p: Part, k: u8) -> Span
 }
 
 // The block that holds an address.
+#[tactic(auto, unfolding(crate::specs::Parts::block_of))]
 pub fn block_of(p: Part, address: u32) -> u8
     ensures { result ≡ block_of p address }
 {
@@ -420,12 +303,12 @@ pub fn block_of(p: Part, address: u32) -> u8
 }
 
 // The part's own identifier code: in byte mode its low byte.
+#[tactic(auto, unfolding(crate::specs::Parts::code_of))]
 pub fn code(p: Part) -> u16
     ensures { result ≡ code_of p }
 {
     let s = describe(p);
-    let word = p.word;
-    if word {
+    if p.word {
         return s.code;
     }
     s.code % 256

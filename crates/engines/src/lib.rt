@@ -1,5 +1,5 @@
-// Two engines behind one function: the rules tested one by one, or the table of `command_table`. The promise names no engine, since they
-// agree.
+// Two engines behind one trait: the rules tested one by one, and the table of `command_table`. The promise stands once, at the trait: it
+// names no engine, since they agree.
 #![tactic(auto)]
 
 ghost use Rattle.std.specs.Prelude.{◌≡◌};
@@ -10,22 +10,36 @@ use device::Device;
 use model::Answer;
 use model_types::{Cycle, State};
 
-// An engine is told by one bit: a value of an enum goes through memory, and a program that names one engine would pay for the other.
-pub const RULES: bool = false;
+// What answers a bus cycle. An engine is a type, so that what is written for any engine is compiled for each, and a program that names
+// one does not hold the other.
+pub trait Engine {
+    // One bus cycle.
+    fn cycle(d: Device, s: State, c: Cycle, array: &mut [u8], residue: &[u8]) -> Answer
+        ensures result { result
+            ≡ answer_of d s c (lent d.part.word array.old) (units d.part.word residue.now) }
+        ensures told { seen_told result.seen
+            ≡ cycle_told d s c (lent d.part.word array.old) (units d.part.word residue.now) }
+        ensures array_left { array.new ≡ bytes_after d s c array.old residue.now };
+}
 
-// The engine by the table.
-pub const TABLE: bool = true;
+// The rules, tested one by one.
+#[derive(Clone, Copy)]
+pub struct Rules;
 
-// One bus cycle, by the table or by the rules.
-pub fn cycle(table: bool, d: Device, s: State, c: Cycle, array: &mut [u8], residue: &[u8]) -> Answer
-    ensures result { result
-        ≡ answer_of d s c (lent d.part.word array.old) (units d.part.word residue.now) }
-    ensures told { seen_told result.seen
-        ≡ cycle_told d s c (lent d.part.word array.old) (units d.part.word residue.now) }
-    ensures array_left { array.new ≡ bytes_after d s c array.old residue.now }
-{
-    if table {
-        return table_engine::cycle(d, s, c, array, residue);
+// The table of `command_table`.
+#[derive(Clone, Copy)]
+pub struct Table;
+
+impl Engine for Rules {
+    // By the model.
+    fn cycle(d: Device, s: State, c: Cycle, array: &mut [u8], residue: &[u8]) -> Answer {
+        model::cycle(d, s, c, array, residue)
     }
-    model::cycle(d, s, c, array, residue)
+}
+
+impl Engine for Table {
+    // By the second engine.
+    fn cycle(d: Device, s: State, c: Cycle, array: &mut [u8], residue: &[u8]) -> Answer {
+        table_engine::cycle(d, s, c, array, residue)
+    }
 }

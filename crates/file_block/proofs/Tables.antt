@@ -48,7 +48,7 @@ right first i n b rest e = go (eqb (check_number b) 0) refl (sym (after_check fi
 
     go : (t : Bool) → eqb (check_number b) 0 ≡ t → (if eqb (check_number b) 0 then given R else check_number b) ≡ 0 → Right first i n b × (given rest ≡ 0)
     go true q g =
-        let k = check_passed b (check_number b) refl (eqb-true _ _ q) in
+        let k = check_passed b (eqb-true _ _ q) in
         let l = not_given (letter_wrong first b) 31 _ (sym (if_true (eqb (check_number b) 0) (given R) (check_number b) q) ∙ g) in
         let p = not_given (place_wrong i n b) 32 _ l.1 in
         let u = not_given (used_wrong i n b || padding_wrong b) 33 _ p.1 in

@@ -11,6 +11,9 @@ use Rattle.std.specs.Prelude.{if◌then◌else◌}
 use Rattle.common.proofs.Choice.{if_true, if_false}
 use Rattle.common.specs.Numbers.{Row, row, given}
 use Rattle.file_check.specs.Check.{all_are, is_blank, is_damaged, check_number}
+use Rattle.file_check.specs.Refusal.{number_of}
+use Rattle.file_check.specs.declared.refusal.FileRefusal.{FileRefusal}
+use Rattle.file_check.proofs.Refusals.{number_range}
 use Rattle.file_block.specs.Block.{used_of, letter_wrong, place_wrong, used_wrong, padding_wrong, block_rows}
 
 -- no padding is left where more than 505 bytes are said to be used
@@ -25,13 +28,10 @@ unfolding padding_wrong
 padding_is b u e = ap (λ (k : ℕ). not (all_are 255 (take (510 - (5 + k)) (drop (5 + k) b)))) e
 
 -- without a refusal by the check the block is neither blank nor damaged
-pub check_passed : (b : List ℕ) (r : ℕ) → r ≡ check_number b → r ≡ 0 → (is_blank b ≡ false) × (is_damaged b ≡ false)
+pub check_passed : (b : List ℕ) → check_number b ≡ 0 → (is_blank b ≡ false) × (is_damaged b ≡ false)
 unfolding check_number
-check_passed b r e z = go (is_blank b) refl (is_damaged b) refl
+check_passed b f = go (is_blank b) refl (is_damaged b) refl
   where
-    f : check_number b ≡ 0
-    f = sym e ∙ z
-
     go : (t : Bool) → is_blank b ≡ t → (u : Bool) → is_damaged b ≡ u → (is_blank b ≡ false) × (is_damaged b ≡ false)
     go true q u d = absurd (let w : ◌≡◌ {A = ℕ} 38 0 = sym (if_true (is_blank b) 38 _ q) ∙ f in omega arith)
     go false q true d = absurd (let w : ◌≡◌ {A = ℕ} 31 0 = sym (if_true (is_damaged b) 31 0 d) ∙ sym (if_false (is_blank b) 38 _ q) ∙ f in omega arith)
@@ -55,6 +55,7 @@ after_check first i n b after = go (is_blank b) refl (is_damaged b) refl
     go false q true d = simp (q, d)
     go false q false d = simp (q, d)
 
-pub check_first : (first i n : ℕ) (b : List ℕ) (r : ℕ) → r ≡ check_number b → (r ≡ 0 → ⊥) → r ≡ given (block_rows first i n b [])
-check_first first i n b r e z =
-    e ∙ sym (if_false (eqb (check_number b) 0) _ (check_number b) (ne_eqb _ _ (λ (q : check_number b ≡ 0). z (e ∙ q)))) ∙ sym (after_check first i n b [])
+pub check_first : (first i n : ℕ) (b : List ℕ) (r : FileRefusal) → number_of r ≡ check_number b → number_of r ≡ given (block_rows first i n b [])
+check_first first i n b r e =
+    let z : check_number b ≡ 0 → ⊥ = (λ (q : check_number b ≡ 0). let l = number_range r in omega arith) in
+    e ∙ sym (if_false (eqb (check_number b) 0) _ (check_number b) (ne_eqb _ _ z)) ∙ sym (after_check first i n b [])

@@ -3,26 +3,15 @@
 
 ghost use Rattle.std.specs.Prelude.{◌≡◌, ◌<◌, length};
 ghost use Rattle.file_block.specs.Block.{within, is_letter, used_of, letter_wrong, place_wrong, used_wrong, padding_wrong, unsound_number};
+ghost use Rattle.file_check.specs.Refusal.{found_number};
 
-// Whether x stands in s.
-fn one_of(x: u8, s: &[u8]) -> bool
-    ensures { result ≡ within x s.now }
-{
-    let mut i = 0;
-    while i < s.len() {
-        if x == s[i] {
-            return true;
-        }
-        i += 1;
-    }
-    false
-}
+use file_check::refusal::FileRefusal;
 
 // Whether x is one of the eight letters.
 pub fn is_letter(x: u8) -> bool
     ensures { result ≡ is_letter x }
 {
-    one_of(x, b"BEJKNRST")
+    b"BEJKNRST".contains(&x)
 }
 
 // The payload bytes that a block says it uses.
@@ -80,28 +69,25 @@ fn padding_wrong(block: &[u8]) -> bool
     !clean
 }
 
-// The first refusal of a slice as block i of n: 30 where it is not 512 bytes long, then 38 or else 31, then 32, 33, 34; or 0.
-pub fn unsound_number(block: &[u8], first: u8, i: usize, n: usize) -> u8
-    ensures { result ≡ unsound_number first i n block.now }
+// The first refusal of a slice as block i of n: 30 where it is not 512 bytes long, then 38 or else 31, then 32, 33, 34; or nothing.
+pub fn judge_block(block: &[u8], first: u8, i: usize, n: usize) -> Result<(), FileRefusal>
+    ensures { found_number result ≡ unsound_number first i n block.now }
 {
     if block.len() != 512 {
-        return 30;
+        return Err(FileRefusal::Length);
     }
-    let wrong = file_check::check_number(block);
-    if wrong != 0 {
-        return wrong;
-    }
+    file_check::judge_check(block)?;
     if letter_wrong(block, first) {
-        return 32;
+        return Err(FileRefusal::Letter);
     }
     if place_wrong(block, i, n) {
-        return 33;
+        return Err(FileRefusal::Place);
     }
     if used_wrong(block, i, n) {
-        return 34;
+        return Err(FileRefusal::Padding);
     }
     if padding_wrong(block) {
-        return 34;
+        return Err(FileRefusal::Padding);
     }
-    0
+    Ok(())
 }

@@ -1,4 +1,5 @@
 pub mod Walks
 pub mod Sums
 pub mod Verdicts
+pub mod Refusals
 pub mod Unique

@@ -1,9 +1,9 @@
 -- The check's sums in four columns: what they hold stays the sums of the bytes met.
 use mathlib.Core.Path.{◌≡◌, refl, sym, ◌∙◌, ap, subst}
-use mathlib.Core.List.{List, [], ◌∷◌}
+use mathlib.Core.List.{List, ◌∷◌}
 use Prim.Native.Nat.{ℕ, ◌+◌, ◌*◌, ◌%◌, ◌/◌, ◌-◌, ◌≤◌, ◌<◌, min}
 use native.Mathlib.Omega.{arith}
-use lib.ListN.{length, get_or, take, drop, length-drop, drop_of_length-le}
+use lib.ListN.{length, get_or, take, drop, length-drop}
 use lib.Seq.{take_all}
 use lib.Dec.{ltb}
 use borrow.Author.Tests.{ltb-true, ltb-false}
@@ -56,15 +56,6 @@ held_round s xs at l m h {a} {b} {c} {d} {r} ea eb ec ed e =
     let z : a ∷ b ∷ c ∷ d ∷ drop (at + 4) xs ≡ drop at xs = (λ i. ea.0 i ∷ eb.0 i ∷ ec.0 i ∷ ed.0 i ∷ drop (at + 4) xs) ∙ sym (four_here xs at l) in
     subst (λ (q : Columns). From q at xs) (sym e)
     record { held = subst (λ (y : List ℕ). Held (next_of s a b c d) y) z (held_front s a b c d (drop (at + 4) xs) n ea.1 eb.1 ec.1 ed.1 h.held) }
-
--- nothing met yet
-abbrev none : Columns
-none = record { s0 = 0; s1 = 0; s2 = 0; s3 = 0; t0 = 0; t1 = 0; t2 = 0; t3 = 0 }
-
-pub held_start : (xs : List ℕ) → From none (length xs) xs
-held_start xs =
-    let h : Held none [] = record { sum = refl; weight = refl; few = omega arith; many = omega arith } in
-    record { held = subst (λ (z : List ℕ). Held none z) (sym (drop_of_length-le xs {i = length xs} (omega arith))) h }
 
 -- the same place, told otherwise
 pub held_at : {s : Columns} {xs : List ℕ} {i k : ℕ} → From s i xs → i ≡ k → From s k xs

@@ -12,6 +12,7 @@ use lib.Dec.{eqb}
 use lib.Bits.{bit_and, and_le_l, and_le_r}
 use borrow.Author.Tests.{eq-eqb, ne_eqb, eqb-true, eqb-false}
 use Rattle.std.specs.Prelude.{if◌then◌else◌}
+use Rattle.std.specs.List.{fold}
 use Rattle.common.proofs.Choice.{if_true, if_false}
 use Rattle.file_check.specs.Check.{wsum, all_are}
 use Rattle.file_check.specs.Inner.{sum_of}
@@ -39,32 +40,26 @@ one_more s i h =
 pub sum_more : (s : List ℕ) (i : ℕ) → i < length s → sum_of (drop i s) ≡ get_or s i 0 + sum_of (drop (i + 1) s)
 sum_more s i h = ap sum_of (from_here s i h)
 
--- a test of every byte: broken at place i, or kept up
-pub broken : (b : ℕ) (s : List ℕ) (i : ℕ) → i < length s → (get_or s i 0 ≡ b → ⊥) → all_are b (drop i s) ≡ false
-broken b s i h e = ap (all_are b) (from_here s i h) ∙ if_false (eqb (get_or s i 0) b) (all_are b (drop (i + 1) s)) false (ne_eqb _ _ e)
-
-pub kept : (b : ℕ) (s : List ℕ) (i : ℕ) → i < length s → get_or s i 0 ≡ b → all_are b (drop i s) ≡ all_are b (drop (i + 1) s)
-kept b s i h e = ap (all_are b) (from_here s i h) ∙ if_true (eqb (get_or s i 0) b) (all_are b (drop (i + 1) s)) false (eq-eqb _ _ e)
-
--- the bits of the bytes so far, and what is left, say what they said before one byte more
-pub gathered : (s : List ℕ) (i a : ℕ) → i < length s → a ≤ 255 → get_or s i 0 ≤ 255
-    → (if eqb (bit_and a (get_or s i 0)) 255 then all_are 255 (drop (i + 1) s) else false) ≡ (if eqb a 255 then all_are 255 (drop i s) else false)
-gathered s i a h m n = go (eqb x 255) refl (eqb a 255) refl
+-- the bits that all bytes have, from some bits on, are 255 where these are and each byte is
+pub gathered : (s : List ℕ) (a : ℕ) → a ≤ 255 → ((i : ℕ) → get_or s i 0 ≤ 255) → eqb (fold (λ b x. bit_and b x) a s) 255 ≡ (if eqb a 255 then all_are 255 s else false)
+gathered [] a m h = itself (eqb a 255)
   where
-    x : ℕ
-    x = get_or s i 0
-
+    itself : (b : Bool) → b ≡ (if b then true else false)
+    itself true = refl
+    itself false = refl
+gathered (x ∷ s) a m h = gathered s (bit_and a x) (let u = and_le_l a x in omega arith) (λ (i : ℕ). h (suc i)) ∙ go (eqb x 255) refl (eqb a 255) refl
+  where
     less : (x ≡ 255 → ⊥) → eqb (bit_and a x) 255 ≡ false
-    less q = ne_eqb (bit_and a x) 255 (λ (e : bit_and a x ≡ 255). let u = and_le_r a x in q (omega arith))
+    less q = ne_eqb (bit_and a x) 255 (λ (e : bit_and a x ≡ 255). let u = and_le_r a x in let n = h 0 in q (omega arith))
 
     lower : (a ≡ 255 → ⊥) → eqb (bit_and a x) 255 ≡ false
     lower q = ne_eqb (bit_and a x) 255 (λ (e : bit_and a x ≡ 255). let u = and_le_l a x in q (omega arith))
 
     go : (t : Bool) → eqb x 255 ≡ t → (b : Bool) → eqb a 255 ≡ b
-        → (if eqb (bit_and a x) 255 then all_are 255 (drop (i + 1) s) else false) ≡ (if b then all_are 255 (drop i s) else false)
+        → (if eqb (bit_and a x) 255 then all_are 255 s else false) ≡ (if b then (if t then all_are 255 s else false) else false)
     go true e true f =
         let y : bit_and a x ≡ 255 = (λ j. bit_and (eqb-true a 255 f j) (eqb-true x 255 e j)) in
-        if_true (eqb (bit_and a x) 255) _ _ (eq-eqb (bit_and a x) 255 y) ∙ sym (kept 255 s i h (eqb-true x 255 e))
+        if_true (eqb (bit_and a x) 255) _ _ (eq-eqb (bit_and a x) 255 y)
     go true e false f = if_false (eqb (bit_and a x) 255) _ _ (lower (eqb-false a 255 f))
-    go false e true f = if_false (eqb (bit_and a x) 255) _ _ (less (eqb-false x 255 e)) ∙ sym (broken 255 s i h (eqb-false x 255 e))
+    go false e true f = if_false (eqb (bit_and a x) 255) _ _ (less (eqb-false x 255 e))
     go false e false f = if_false (eqb (bit_and a x) 255) _ _ (less (eqb-false x 255 e))

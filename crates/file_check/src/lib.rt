@@ -4,6 +4,11 @@
 ghost use Rattle.std.specs.Prelude.{◌≡◌, ◌+◌, ◌-◌, ◌*◌, ◌/◌, ◌%◌, ◌<◌, ◌≤◌, length, get_or, take};
 ghost use Rattle.file_check.specs.Check.{check_of, all_are, is_blank, check_number, pair};
 ghost use Rattle.file_check.specs.Inner.{Small, From, next_of, over_of};
+ghost use Rattle.file_check.specs.Refusal.{found_number};
+
+use refusal::FileRefusal;
+
+pub mod refusal;
 
 // The sums over bytes that stand four apart, four columns from the last byte on: what each column adds up to, and all that it added
 // up to, byte after byte, added up.
@@ -102,13 +107,13 @@ fn by_columns(bytes: &[u8]) -> Columns
         t2: 0,
         t3: 0,
     };
-    let mut place = bytes.len();
-    while 16 <= place {
-        s = four(s, bytes, place - 4);
-        s = four(s, bytes, place - 8);
-        s = four(s, bytes, place - 12);
-        s = four(s, bytes, place - 16);
-        place -= 16;
+    let few = bytes.len() % 16;
+    for round in (0..bytes.len() / 16).rev() {
+        let place = few + 16 * round;
+        s = four(s, bytes, place + 12);
+        s = four(s, bytes, place + 8);
+        s = four(s, bytes, place + 4);
+        s = four(s, bytes, place);
     }
     s
 }
@@ -140,9 +145,7 @@ fn check_all(bytes: &[u8]) -> u16
     let s = by_columns(bytes);
     let mut sum = plain(s);
     let mut total = weighed(s);
-    let mut place = bytes.len() % 16;
-    while 0 < place {
-        place -= 1;
+    for place in (0..bytes.len() % 16).rev() {
         sum += byte_at(bytes, place);
         total += sum;
     }
@@ -168,13 +171,7 @@ pub fn joined(high: u8, low: u8) -> usize
 pub fn all_ff(s: &[u8]) -> bool
     ensures { result ≡ all_are 255 s.now }
 {
-    let mut bits: u8 = 255;
-    let mut i = 0;
-    while i < s.len() {
-        bits = bits & s[i];
-        i += 1;
-    }
-    bits == 255
+    s.iter().fold(255, |bits, b| bits & *b) == 255
 }
 
 // Whether a block is blank, as an erase leaves it.
@@ -187,18 +184,18 @@ fn is_blank(block: &[u8]) -> bool
     all_ff(&block[0..512])
 }
 
-// What the check alone says of a block: 38 where it is blank, else 31, or 0. A blank block's check is wrong: only where it is wrong is the
-// block looked over.
-pub fn check_number(block: &[u8]) -> u8
-    ensures { result ≡ check_number block.now }
+// What the check alone says of a block: 38 where it is blank, else 31, or nothing. A blank block's check is wrong: only where it is wrong
+// is the block looked over.
+pub fn judge_check(block: &[u8]) -> Result<(), FileRefusal>
+    ensures { found_number result ≡ check_number block.now }
 {
     let stored = joined(common::nth(block, 510), common::nth(block, 511));
     let right = check(block) as usize;
     if right == stored {
-        return 0;
+        return Ok(());
     }
     if is_blank(block) {
-        return 38;
+        return Err(FileRefusal::Blank);
     }
-    31
+    Err(FileRefusal::Damaged)
 }

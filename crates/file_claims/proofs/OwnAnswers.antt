@@ -11,9 +11,8 @@ use lib.Dec.{ltb}
 use borrow.Author.Tests.{ltb-false}
 use Rattle.common.specs.Lists.{Bytes}
 use Rattle.common.proofs.Choice.{if_true, if_false}
-use Rattle.file_codec.specs.declared.Written.TheVariants.{Wrote}
-use Rattle.file_codec.specs.declared.ReadBack.TheVariants.{Gave}
-use Rattle.file_codec.specs.File.{Outcome, refused, made, limit, in_room, left_in, reader_of, writer_of, read_as, written_as}
+use Rattle.std.specs.Prelude.{Ok}
+use Rattle.file_codec.specs.File.{Outcome, refused, made, limit, in_room, left_in, reader_of, writer_of, answered_as}
 use Rattle.file_codec.proofs.Outcomes.{room_made}
 use Rattle.file_claims.specs.Roomy.{ReadsInto, WritesInto, WritesGivenRoom}
 use Rattle.file_claims.proofs.Written.{written_read}
@@ -40,13 +39,9 @@ through room (made c) b e = go (ltb room (length c)) refl
         (w, (omega arith))
 
 -- an answer that is a length tells of bytes of that length
-given_back : (o : Outcome) (k : ℕ) → read_as o ≡ Gave k → (b : List ℕ) × (o ≡ made b) × (length b ≡ k)
-given_back (refused n) k e = absurd (let z : ◌≡◌ {A = ℕ} 0 1 = cc in omega arith)
-given_back (made b) k e = (b, refl, (cc))
-
-wrote : (o : Outcome) (k : ℕ) → written_as o ≡ Wrote k → (b : List ℕ) × (o ≡ made b) × (length b ≡ k)
-wrote (refused n) k e = absurd (let z : ◌≡◌ {A = ℕ} 0 1 = cc in omega arith)
-wrote (made b) k e = (b, refl, (cc))
+answered_made : (o : Outcome) (k : ℕ) → answered_as o ≡ Ok k → (b : List ℕ) × (o ≡ made b) × (length b ≡ k)
+answered_made (refused n) k e = absurd (let z : ◌≡◌ {A = ℕ} 0 1 = cc in omega arith)
+answered_made (made b) k e = (b, refl, (cc))
 
 -- and what is left at the front tells which
 which : (room : ℕ) (o : Outcome) (out b p : List ℕ) → in_room room o ≡ made b → length b ≡ length p → left_in out (in_room room o) ≡ p ++ drop (length p) out → (o ≡ made p) × (length p ≤ room)
@@ -56,24 +51,24 @@ which room o out b p e l h =
 
 pub read_made : (f : List ℕ) (asked : ℕ) (out p : List ℕ) → ReadsInto f asked out p → (reader_of limit f asked ≡ made p) × (length p ≤ length out)
 read_made f asked out p h =
-    let g = given_back (in_room (length out) (reader_of limit f asked)) (length p) h.0 in
+    let g = answered_made (in_room (length out) (reader_of limit f asked)) (length p) h.0 in
     which (length out) (reader_of limit f asked) out g.0 p g.1 g.2 h.1
 
 pub write_made : (ℓ : ℕ) (p out f : List ℕ) → WritesInto ℓ p out f → (writer_of limit ℓ p ≡ made f) × (length f ≤ length out)
 write_made ℓ p out f h =
-    let g = wrote (in_room (length out) (writer_of limit ℓ p)) (length f) h.0 in
+    let g = answered_made (in_room (length out) (writer_of limit ℓ p)) (length f) h.0 in
     which (length out) (writer_of limit ℓ p) out g.0 f g.1 g.2 h.1
 
 -- the other way round, where there is room
 pub made_read : (f : List ℕ) (asked : ℕ) (out p : List ℕ) → reader_of limit f asked ≡ made p → length p ≤ length out → ReadsInto f asked out p
 made_read f asked out p e h =
     let q : in_room (length out) (reader_of limit f asked) ≡ made p = ap (in_room (length out)) e ∙ room_made (length out) p h in
-    (ap read_as q, ap (left_in out) q)
+    (ap answered_as q, ap (left_in out) q)
 
 pub made_write : (ℓ : ℕ) (p out f : List ℕ) → writer_of limit ℓ p ≡ made f → length f ≤ length out → WritesInto ℓ p out f
 made_write ℓ p out f e h =
     let q : in_room (length out) (writer_of limit ℓ p) ≡ made f = ap (in_room (length out)) e ∙ room_made (length out) f h in
-    (ap written_as q, ap (left_in out) q)
+    (ap answered_as q, ap (left_in out) q)
 
 -- bytes are read into a buffer exactly when they have room there and the writer, given room, makes that file of them
 pub given_room : (f : List ℕ) (ℓ : ℕ) (out p : List ℕ) → Bytes f → ReadsInto f ℓ out p ↔ ((length p ≤ length out) × WritesGivenRoom ℓ p f)

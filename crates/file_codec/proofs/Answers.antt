@@ -5,10 +5,11 @@ use Prim.Native.Nat.{ℕ, ◌+◌, ◌*◌, ◌/◌, ◌-◌, ◌≤◌, ◌<◌
 use native.Mathlib.Omega.{arith}
 use lib.ListN.{length, get_or, take, drop}
 use lib.Seq.{length-take-le}
-use Rattle.file_codec.specs.File.{Outcome, refused, made, in_room, left_in, payload_of, places_of, reader_of, judged_as}
+use Rattle.file_codec.specs.File.{Outcome, refused, made, in_room, left_in, payload_of, places_of, reader_of, answered_told, told_by}
 use Rattle.file_codec.proofs.Sizes.{sized}
-use Rattle.file_codec.proofs.Outcomes.{length_right, reader_lets, judged_made, room_37, room_made}
-use Rattle.file_codec.specs.declared.Judged.TheVariants.{Sound}
+use Rattle.file_codec.proofs.Outcomes.{length_right, reader_lets, room_37, room_made}
+use Rattle.file_codec.proofs.Told.{told_made}
+use Rattle.std.specs.Prelude.{Ok}
 
 -- a file that was judged sound with k bytes: its payload is the first k of its payload places
 pub record Held (most : ℕ) (f : List ℕ) (asked k : ℕ) : Type 0 where
@@ -18,9 +19,9 @@ pub record Held (most : ℕ) (f : List ℕ) (asked k : ℕ) : Type 0 where
   pub size : length (take k (places_of (length f / 512) f)) ≡ k
   pub outcome : reader_of most f asked ≡ made (take k (places_of (length f / 512) f))
 
-pub held : (most : ℕ) (f : List ℕ) (asked k : ℕ) → judged_as (reader_of most f asked) ≡ Sound k → Held most f asked k
+pub held : (most : ℕ) (f : List ℕ) (asked k : ℕ) → answered_told (Ok k) ≡ told_by (reader_of most f asked) → Held most f asked k
 held most f asked k e =
-    let j = judged_made (reader_of most f asked) k e in
+    let j = told_made k (reader_of most f asked) e in
     let p = j.0 in
     let b = reader_lets most f asked p j.1 in
     let n = length f / 512 in

@@ -12,9 +12,8 @@ use Rattle.common.proofs.Choice.{if_true, if_false}
 use Rattle.common.specs.Numbers.{Row, row, given}
 use Rattle.file_block.specs.Block.{is_letter}
 use Rattle.file_block.proofs.Tables.{none_of_two, not_given}
-use Rattle.file_codec.specs.File.{Outcome, refused, made, outcome_by, in_room, file_of, blocks_rows, blocks_in, payload_of, length_wrong, payload_wrong, read_rows, write_rows, reader_of, writer_of, judged_as}
+use Rattle.file_codec.specs.File.{refused, made, outcome_by, in_room, file_of, blocks_rows, blocks_in, payload_of, length_wrong, payload_wrong, read_rows, write_rows, reader_of, writer_of}
 use Rattle.file_codec.proofs.Tables.{after_blocks}
-use Rattle.file_codec.specs.declared.Judged.TheVariants.{Sound, Refused}
 
 -- a number other than 0 refuses, 0 lets through
 pub outcome_refused : (n : ℕ) (bytes : List ℕ) → (n ≡ 0 → ⊥) → outcome_by n bytes ≡ refused n
@@ -29,6 +28,13 @@ outcome_lets n bytes p e = go (eqb n 0) refl
     go : (t : Bool) → eqb n 0 ≡ t → (n ≡ 0) × (bytes ≡ p)
     go true q = (eqb-true n 0 q, let w : made bytes ≡ made p = sym (if_true (eqb n 0) (made bytes) (refused n) q) ∙ e in cc)
     go false q = absurd (let w : refused n ≡ made p = sym (if_false (eqb n 0) (made bytes) (refused n) q) ∙ e in let z : ◌≡◌ {A = ℕ} 0 1 = cc in omega arith)
+
+pub outcome_refuses : (n m : ℕ) (bytes : List ℕ) → outcome_by n bytes ≡ refused m → n ≡ m
+outcome_refuses n m bytes e = go (eqb n 0) refl
+  where
+    go : (t : Bool) → eqb n 0 ≡ t → n ≡ m
+    go true q = absurd (let w : made bytes ≡ refused m = sym (if_true (eqb n 0) (made bytes) (refused n) q) ∙ e in let z : ◌≡◌ {A = ℕ} 0 1 = cc in omega arith)
+    go false q = let w : refused n ≡ refused m = sym (if_false (eqb n 0) (made bytes) (refused n) q) ∙ e in cc
 
 -- a length that is not refused: so many whole blocks, from 1 up to the limit
 pub length_right : (most size : ℕ) → length_wrong most size ≡ false → (size ≡ 512 * (size / 512)) × (0 < size / 512) × (size / 512 ≤ most)
@@ -158,12 +164,3 @@ room_37 room bytes h = if_true (ltb room (length bytes)) (refused 37) (made byte
 
 pub room_made : (room : ℕ) (bytes : List ℕ) → length bytes ≤ room → in_room room (made bytes) ≡ made bytes
 room_made room bytes h = if_false (ltb room (length bytes)) (refused 37) (made bytes) (le-ltb room (length bytes) h)
-
--- back from a judgement to its outcome
-pub judged_refused : (o : Outcome) (n : ℕ) → judged_as o ≡ Refused n → o ≡ refused n
-judged_refused (refused m) n e = cc
-judged_refused (made bytes) n e = absurd (let z : ◌≡◌ {A = ℕ} 0 1 = cc in omega arith)
-
-pub judged_made : (o : Outcome) (k : ℕ) → judged_as o ≡ Sound k → (p : List ℕ) × (o ≡ made p) × (length p ≡ k)
-judged_made (refused m) k e = absurd (let z : ◌≡◌ {A = ℕ} 0 1 = cc in omega arith)
-judged_made (made bytes) k e = (bytes, refl, (cc))

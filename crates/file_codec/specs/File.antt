@@ -1,15 +1,12 @@
 -- The load file: what the writer writes, how the reader judges a file, and what each answers.
-use Rattle.std.specs.Prelude.{List, [], ◌∷◌, ◌++◌, Bool, not, ◌||◌, ℕ, zero, suc, ◌+◌, ◌*◌, ◌/◌, ◌%◌, get_or, take, drop, length, eqb}
+use Rattle.std.specs.Prelude.{List, [], ◌∷◌, ◌++◌, Bool, not, ◌||◌, ℕ, zero, suc, ◌+◌}
+use Rattle.std.specs.Prelude.{◌*◌, ◌/◌, ◌%◌, get_or, take, drop, length, eqb, Result, Ok, Err}
 use Rattle.std.specs.Prelude.{ltb, if◌then◌else◌}
 use Rattle.common.specs.Numbers.{Row, row, given}
 use Rattle.file_block.specs.Block.{is_letter, block_rows, used_of}
 use Rattle.file_codec.specs.Layout.{block_written}
-use Rattle.file_codec.specs.declared.Written.{Written}
-use Rattle.file_codec.specs.declared.Written.TheVariants.{Wrote, Refused as WriteRefused}
-use Rattle.file_codec.specs.declared.Judged.{Judged}
-use Rattle.file_codec.specs.declared.Judged.TheVariants.{Sound, Refused as JudgeRefused}
-use Rattle.file_codec.specs.declared.ReadBack.{ReadBack}
-use Rattle.file_codec.specs.declared.ReadBack.TheVariants.{Gave, Refused as ReadRefused}
+use Rattle.file_check.specs.Refusal.{number_of, refusal_of}
+use Rattle.file_check.specs.declared.refusal.FileRefusal.{FileRefusal}
 
 -- the most blocks that a file has (R-file-1)
 abbrev pub limit : ℕ
@@ -93,35 +90,15 @@ read_rows most f asked after =
 unfoldable pub reader_of : ℕ → List ℕ → ℕ → Outcome
 reader_of most f asked = outcome_by (given (read_rows most f asked [])) (payload_of (blocks_in f) f)
 
--- the answers of the code for an outcome: the number of the refusal, or the bytes written, held, given back
-abbrev pub written_as : Outcome → Written
-written_as (refused n) = WriteRefused n
-written_as (made bytes) = Wrote (length bytes)
+-- the code's answer for an outcome: the refusal that has the number, or how many bytes are written, held, given back
+abbrev pub answered_as : Outcome → Result ℕ FileRefusal
+answered_as (refused n) = Err (refusal_of n)
+answered_as (made bytes) = Ok (length bytes)
 
--- .. of the reader's judgement alone
-abbrev pub judged_as : Outcome → Judged
-judged_as (refused n) = JudgeRefused n
-judged_as (made bytes) = Sound (length bytes)
-
--- .. of the reader
-abbrev pub read_as : Outcome → ReadBack
-read_as (refused n) = ReadRefused n
-read_as (made bytes) = Gave (length bytes)
-
--- the same answers by their cases: the refusal's number, 0 where there is none, and the values given (R-promise-2)
-abbrev pub written_told : Written → ℕ × List ℕ
-written_told (Wrote size) = (0, size ∷ [])
-written_told (WriteRefused n) = (n, [])
-
--- .. of the reader's judgement alone
-abbrev pub judged_told : Judged → ℕ × List ℕ
-judged_told (Sound size) = (0, size ∷ [])
-judged_told (JudgeRefused n) = (n, [])
-
--- .. of the reader
-abbrev pub read_told : ReadBack → ℕ × List ℕ
-read_told (Gave size) = (0, size ∷ [])
-read_told (ReadRefused n) = (n, [])
+-- the same answer by its cases: the refusal's number, 0 where there is none, and the values given (R-promise-2)
+abbrev pub answered_told : Result ℕ FileRefusal → ℕ × List ℕ
+answered_told (Ok size) = (0, size ∷ [])
+answered_told (Err refusal) = (number_of refusal, [])
 
 -- what an outcome tells: its refusal's number, or 0 and how many bytes come of it
 abbrev pub told_by : Outcome → ℕ × List ℕ

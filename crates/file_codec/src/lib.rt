@@ -5,8 +5,10 @@ ghost use Rattle.std.specs.Prelude.{◌≡◌, [], ◌+◌, ◌-◌, ◌*◌, �
 ghost use Rattle.common.specs.Numbers.{given};
 ghost use Rattle.file_block.specs.Block.{used_of};
 ghost use Rattle.file_codec.specs.File.{limit, length_wrong, blocks_rows, places_of};
-ghost use Rattle.file_codec.specs.File.{reader_of, in_room, left_in, judged_as, read_as, judged_told, read_told};
-ghost use Rattle.file_codec.specs.File.{told_by};
+ghost use Rattle.file_codec.specs.File.{reader_of, in_room, left_in, answered_as, answered_told, told_by};
+ghost use Rattle.file_check.specs.Refusal.{found_number};
+
+use file_check::refusal::FileRefusal;
 
 // The most blocks that a file has; with them the bytes of the longest file, and of the longest payload.
 pub const LIMIT: usize = 224;
@@ -17,44 +19,19 @@ pub const FILE: usize = 512 * LIMIT;
 // The bytes of the longest payload.
 pub const PAYLOAD: usize = 505 * LIMIT;
 
-// The writer's answer: the bytes written, or the refusal.
-#[derive(Clone, Copy)]
-pub enum Written {
-    Wrote(usize),
-    Refused(u8),
-}
-
-// The judgement of a file: the bytes of its payload, or the refusal.
-#[derive(Clone, Copy)]
-pub enum Judged {
-    Sound(usize),
-    Refused(u8),
-}
-
-// The reader's answer: the bytes given back, or the refusal.
-#[derive(Clone, Copy)]
-pub enum ReadBack {
-    Gave(usize),
-    Refused(u8),
-}
-
-// The first refusal of n blocks, block by block: 38 or else 31, then 32, 33, 34; or 0.
-fn blocks_number(file: &[u8], n: usize) -> u8
+// The first refusal of n blocks, block by block: 38 or else 31, then 32, 33, 34; or nothing.
+// Kept: a range and no `chunks(512).enumerate()`: its goal `loop-i-preserved` was not proved in the time there was.
+fn judge_blocks(file: &[u8], n: usize) -> Result<(), FileRefusal>
     requires { length file.now ≡ 512 * n }
-    ensures { result ≡ given (blocks_rows n (get_or file.now 0 0) 0 n file.now []) }
+    ensures { found_number result ≡ given (blocks_rows n (get_or file.now 0 0) 0 n file.now []) }
 {
     let first = common::nth(file, 0);
-    let mut i = 0;
-    while i < n {
+    for i in 0..n {
         let from = 512 * i;
         let to = from + 512;
-        let found = file_block::unsound_number(&file[from..to], first, i, n);
-        if found != 0 {
-            return found;
-        }
-        i += 1;
+        file_block::judge_block(&file[from..to], first, i, n)?;
     }
-    0
+    Ok(())
 }
 
 // 30: the file is empty, too long, or no whole number of blocks.
@@ -86,25 +63,23 @@ fn payload_size(file: &[u8], n: usize) -> usize
     from - seven(whole) + file_block::used(&file[from..to])
 }
 
-// The judgement of a file for the letter asked: 30, then block by block 38 or else 31, then 32, 33, 34; then 35, in one walk.
-pub fn judge(file: &[u8], asked: u8) -> Judged
-    ensures result { result ≡ judged_as (reader_of limit file.now asked) }
-    ensures told { judged_told result ≡ told_by (reader_of limit file.now asked) }
+// The judgement of a file for the letter asked: 30, then block by block 38 or else 31, then 32, 33, 34; then 35, in one walk. A sound file
+// tells the bytes of its payload.
+pub fn judge(file: &[u8], asked: u8) -> Result<usize, FileRefusal>
+    ensures result { result ≡ answered_as (reader_of limit file.now asked) }
+    ensures told { answered_told result ≡ told_by (reader_of limit file.now asked) }
 {
     let size = file.len();
     if length_wrong(size) {
-        return Judged::Refused(30);
+        return Err(FileRefusal::Length);
     }
     let n = size / 512;
-    let fault = blocks_number(file, n);
+    judge_blocks(file, n)?;
     let first = common::nth(file, 0);
-    if fault != 0 {
-        return Judged::Refused(fault);
-    }
     if first != asked {
-        return Judged::Refused(35);
+        return Err(FileRefusal::OtherLetter);
     }
-    Judged::Sound(payload_size(file, n))
+    Ok(payload_size(file, n))
 }
 
 // Out becomes the payload places of n blocks, one behind the other, as far as out goes.
@@ -113,35 +88,28 @@ fn unpack(out: &mut [u8], file: &[u8], n: usize)
     ensures { out.new ≡ take (length out.old) (places_of n file.now) }
 {
     let size = out.len();
-    let mut i = 0;
     let mut to = 0;
-    while i < n {
+    for i in 0..n {
         let end = common::least(to + 505, size);
         let from = 512 * i + 5;
         let stop = from + 505;
         common::copy(&mut out[to..end], &file[from..stop]);
-        i += 1;
         to = end;
     }
 }
 
-// The reader: the judgement, then 37, then the payload into the front of out.
-pub fn read(file: &[u8], asked: u8, out: &mut [u8]) -> ReadBack
-    ensures result { result ≡ read_as (in_room (length out.old) (reader_of limit file.now asked)) }
-    ensures told { read_told result ≡ told_by (in_room (length out.old) (reader_of limit file.now asked)) }
+// The reader: the judgement, then 37, then the payload into the front of out. It tells the bytes given back.
+pub fn read(file: &[u8], asked: u8, out: &mut [u8]) -> Result<usize, FileRefusal>
+    ensures result { result ≡ answered_as (in_room (length out.old) (reader_of limit file.now asked)) }
+    ensures told { answered_told result ≡ told_by (in_room (length out.old) (reader_of limit file.now asked)) }
     ensures out_left { out.new
         ≡ left_in out.old (in_room (length out.old) (reader_of limit file.now asked)) }
 {
-    let verdict = judge(file, asked);
-    match verdict {
-        Judged::Refused(number) => ReadBack::Refused(number),
-        Judged::Sound(size) => {
-            if out.len() < size {
-                return ReadBack::Refused(37);
-            }
-            let n = file.len() / 512;
-            unpack(&mut out[0..size], file, n);
-            ReadBack::Gave(size)
-        }
+    let size = judge(file, asked)?;
+    if out.len() < size {
+        return Err(FileRefusal::Room);
     }
+    let n = file.len() / 512;
+    unpack(&mut out[0..size], file, n);
+    Ok(size)
 }

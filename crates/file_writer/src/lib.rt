@@ -4,10 +4,10 @@
 ghost use Rattle.std.specs.Prelude.{◌≡◌, ◌++◌, ◌+◌, ◌*◌, ◌<◌, ◌≤◌, length, take, drop};
 ghost use Rattle.file_codec.specs.Layout.{head_of, sealed, block_written};
 ghost use Rattle.file_codec.specs.File.{limit, count_of, blocks_of, payload_wrong, writer_of};
-ghost use Rattle.file_codec.specs.File.{in_room, left_in, written_as, written_told};
-ghost use Rattle.file_codec.specs.File.{told_by};
+ghost use Rattle.file_codec.specs.File.{in_room, left_in, answered_as, answered_told, told_by};
 
-use file_codec::{LIMIT, Written};
+use file_check::refusal::FileRefusal;
+use file_codec::LIMIT;
 
 // The first five bytes of a block.
 fn put_head(out: &mut [u8], letter: u8, i: u8, n: u8, u: usize)
@@ -49,9 +49,8 @@ fn pack(out: &mut [u8], letter: u8, payload: &[u8], n: usize)
     requires { (512 * n ≤ length out.old) × (length payload.now ≤ 505 * n) × (505 * n < length payload.now + 505) × (n < 256) }
     ensures { out.new ≡ blocks_of n letter 0 n payload.now ++ drop (512 * n) out.old }
 {
-    let mut i = 0;
     let mut from = 0;
-    while i < n {
+    for i in 0..n {
         let to = 512 * i;
         let stop = common::least(from + 505, payload.len());
         put_block(
@@ -61,7 +60,6 @@ fn pack(out: &mut [u8], letter: u8, payload: &[u8], n: usize)
             n as u8,
             &payload[from..stop],
         );
-        i += 1;
         from = stop;
     }
 }
@@ -114,26 +112,25 @@ fn blocks_for(size: usize) -> usize
     ones.blocks
 }
 
-// The writer: 32, 36, 37, then the file into the front of out.
-pub fn write(letter: u8, payload: &[u8], out: &mut [u8]) -> Written
-    ensures result { result ≡ written_as (in_room (length out.old) (writer_of limit letter payload.now)) }
-    ensures told { written_told result ≡ told_by (in_room (length out.old) (writer_of limit letter payload.now)) }
+// The writer: 32, 36, 37, then the file into the front of out. It tells the bytes written.
+pub fn write(letter: u8, payload: &[u8], out: &mut [u8]) -> Result<usize, FileRefusal>
+    ensures result { result ≡ answered_as (in_room (length out.old) (writer_of limit letter payload.now)) }
+    ensures told { answered_told result ≡ told_by (in_room (length out.old) (writer_of limit letter payload.now)) }
     ensures out_left { out.new
         ≡ left_in out.old (in_room (length out.old) (writer_of limit letter payload.now)) }
 {
-    let known = file_block::is_letter(letter);
-    if !known {
-        return Written::Refused(32);
+    if !file_block::is_letter(letter) {
+        return Err(FileRefusal::Letter);
     }
     let size = payload.len();
     if payload_wrong(size) {
-        return Written::Refused(36);
+        return Err(FileRefusal::Payload);
     }
     let n = blocks_for(size);
     let whole = 512 * n;
     if out.len() < whole {
-        return Written::Refused(37);
+        return Err(FileRefusal::Room);
     }
     pack(out, letter, payload, n);
-    Written::Wrote(whole)
+    Ok(whole)
 }

@@ -6,13 +6,14 @@ use Prim.Native.Nat.{ℕ, zero, suc, ◌+◌, ◌%◌, ◌<◌}
 use native.Mathlib.Omega.{arith}
 use lib.ListN.{length, get_or}
 use lib.Dec.{eqb}
-use lib.Bits.{bit_and, and_le_r}
+use lib.Bits.{bit_and, bit_or, bit_xor, and_le_r}
+use Rattle.std.specs.List.{fold, zip}
 use borrow.Author.Tests.{eq-eqb, ne_eqb, eqb-true, eqb-false}
 use Rattle.common.specs.Lists.{Bytes}
 use Rattle.units.specs.Units.{word_of, pairs, units, torn}
 use Rattle.units.proofs.Pairs.{and_word}
 use Rattle.loader_walk.specs.Walks.{must_rise, rises, rises_in}
-use Rattle.loader_blocks.proofs.Laws.{or_three}
+use Rattle.loader_blocks.proofs.Laws.{gathered, or_three, or_none}
 
 -- two words are the same where both bytes are
 eqb_word : (a b x y : ℕ) → a < 256 → x < 256 → eqb (word_of a b) (word_of x y) ≡ (eqb a x && eqb b y)
@@ -65,3 +66,16 @@ pub rises_units : (word : Bool) (w s : List ℕ) → length s ≡ length w → t
 unfolding rises_in
 rises_units false w s l e b c = refl
 rises_units true w s l e b c = words w s l e b c
+
+-- the bits that must rise, gathered over all pairs of bytes
+pub rises_folded : (b : ℕ) (w s : List ℕ) → length s ≡ length w
+    → not (eqb (fold (λ (b : ℕ) (p : ℕ × ℕ). bit_or b (bit_xor (bit_and p.1 p.0) p.0)) b (zip w s)) 0) ≡ (not (eqb b 0) || rises (length w) 0 w s)
+rises_folded b [] [] l = sym (or_none (not (eqb b 0)))
+rises_folded b [] (y ∷ s) l = absurd (omega arith)
+rises_folded b (x ∷ w) [] l = absurd (omega arith)
+rises_folded b (x ∷ w) (y ∷ s) l =
+    let R : Bool = rises (length w) 0 w s in
+    rises_folded (bit_or b (bit_xor (bit_and y x) x)) w s (omega arith)
+    ∙ ap (λ (q : Bool). q || R) (gathered b y x)
+    ∙ or_three (not (eqb b 0)) (must_rise y x) R
+    ∙ ap (λ (q : Bool). not (eqb b 0) || q) (sym (first (length w) x y w s))

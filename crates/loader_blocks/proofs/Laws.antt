@@ -1,16 +1,20 @@
 -- One round of each walk over a block, and what it comes to.
 use mathlib.Core.Path.{◌≡◌, refl, sym, ap, ◌∙◌, subst}
 use mathlib.Core.Bool.{Bool, true, false, not, ◌||◌}
-use mathlib.Core.List.{List}
-use Prim.Native.Nat.{ℕ, zero, suc, ◌+◌, ◌-◌, ◌*◌, ◌≤◌, ◌<◌}
+use mathlib.Core.List.{List, [], ◌∷◌}
+use mathlib.Core.Logic.{◌⊎◌, inl, inr}
+use Prim.Native.Nat.{ℕ, zero, suc, min, ◌+◌, ◌-◌, ◌*◌, ◌≤◌, ◌<◌}
 use native.Mathlib.Omega.{arith}
 use native.Mathlib.Nat.{not-suc-le-zero, le_of_suc-le-suc, add-mul, one-mul, zero-mul}
 use lib.ListN.{length, get_or, set, take, drop, replicate, length-replicate, get_or-replicate}
-use lib.Seq.{length-take-le, set-get_or, get_or-append-add, get_or-drop, get_or-take}
+use lib.Seq.{length-take-le, get_or-append-add, get_or-drop, get_or-take}
 use borrow.Rule.Slice.PartMut.{mid_of}
 use lib.Dec.{eqb, ltb}
 use lib.Bits.{bit_and, bit_or, bit_xor, and_le_l, and_le_r, or_add_and, xor_add_and, xor_self}
 use borrow.Author.Tests.{lt-ltb, le-ltb, eq-eqb, ne_eqb, eqb-true, eqb-false, not-false}
+use Rattle.std.proofs.lemmas.Bool.{cases_lt}
+use Rattle.std.specs.Int.{from_bool}
+use Rattle.std.specs.List.{fold, zip, range_with_len}
 use Rattle.std.specs.Prelude.{if◌then◌else◌}
 use Rattle.common.proofs.Choice.{if_true, if_false, if_ind, or_left, or_right}
 use Rattle.common.specs.Lists.{overwritten, Bytes}
@@ -69,25 +73,6 @@ module _ (w s : List ℕ) (long : length s ≡ length w) where
       ap (λ (x : ℕ). set (overwritten i w s) i x) (ap (λ (x : ℕ). bit_and x (get_or w i 0)) (here i h) ∙ f)
       ∙ overwritten_more w s i (omega arith) h
 
-  -- a unit that is the wanted one already is the walk one place on
-  pub same_more : (i : ℕ) → i < length s → overwritten i w s ≡ s → get_or s i 0 ≡ get_or w i 0 → overwritten (i + 1) w s ≡ s
-  same_more i h e f =
-      sym (overwritten_more w s i (omega arith) h) ∙ (λ j. set (e j) i (sym f j)) ∙ set-get_or s i 0
-
--- bits gathered of two units: none is there only where none was and the two are the same
-pub none_gathered : (a h w : ℕ) → bit_or a (bit_xor h w) ≡ 0 → (a ≡ 0) × (h ≡ w)
-none_gathered a h w e =
-    let m = or_add_and a (bit_xor h w) in
-    let n = and_le_l a (bit_xor h w) in
-    let n' = and_le_r a (bit_xor h w) in
-    let x = xor_add_and h w in
-    let y = and_le_l h w in
-    let y' = and_le_r h w in
-    (omega arith, omega arith)
-
-pub costs_round : (n each i : ℕ) (w s : List ℕ) → i < n → costs (n - i) each i w s ≡ (if eqb (get_or s i 0) (get_or w i 0) then 0 else each) + costs (n - (i + 1)) each (i + 1) w s
-costs_round n each i w s h = ap (λ (k : ℕ). costs k each i w s) (let e : n - i ≡ suc (n - (i + 1)) = omega arith in e)
-
 pub costs_over : (n each i : ℕ) (w s : List ℕ) → n ≤ i → costs (n - i) each i w s ≡ 0
 costs_over n each i w s h = ap (λ (k : ℕ). costs k each i w s) (let e : n - i ≡ 0 = omega arith in e)
 
@@ -98,6 +83,45 @@ costs_each (suc k) each i w s =
     let t = eqb (get_or s i 0) (get_or w i 0) in
     let one : (if t then 0 else each) ≡ (if t then 0 else 1) * each = if_ind (λ (n : ℕ). (if t then 0 else each) ≡ n * each) t 0 1 (λ e. if_true t 0 each e ∙ sym (zero-mul each)) (λ e. if_false t 0 each e ∙ sym (one-mul each)) in
     (λ j. one j + costs_each k each (i + 1) w s j) ∙ sym (add-mul (if t then 0 else 1) (costs k 1 (i + 1) w s) each)
+
+-- a walk that begins one place later, over lists with one more in front
+costs_shift : (k i x y : ℕ) (w s : List ℕ) → costs k 1 (suc i) (x ∷ w) (y ∷ s) ≡ costs k 1 i w s
+costs_shift zero i x y w s = refl
+costs_shift (suc k) i x y w s =
+    let e : suc i + 1 ≡ suc (i + 1) = omega arith in
+    ap (λ (n : ℕ). (if eqb (get_or s i 0) (get_or w i 0) then 0 else 1) + n) (ap (λ (j : ℕ). costs k 1 j (x ∷ w) (y ∷ s)) e ∙ costs_shift k (i + 1) x y w s)
+
+-- .. from the front
+costs_first : (k x y : ℕ) (w s : List ℕ) → costs (suc k) 1 0 (x ∷ w) (y ∷ s) ≡ (if eqb y x then 0 else 1) + costs k 1 0 w s
+costs_first k x y w s = ap (λ (n : ℕ). (if eqb y x then 0 else 1) + n) (costs_shift k 0 x y w s)
+
+-- one for each pair that differs
+abbrev pub one : ℕ × ℕ → ℕ
+one p = from_bool (not (eqb p.1 p.0))
+
+one_is : (x y : ℕ) → one (x, y) ≡ (if eqb y x then 0 else 1)
+one_is x y = go (eqb y x)
+  where
+    go : (b : Bool) → from_bool (not b) ≡ (if b then 0 else 1)
+    go true = refl
+    go false = refl
+
+-- .. added up
+pub costs_pairs : (a : ℕ) (w s : List ℕ) → length s ≡ length w → fold (λ (n : ℕ) (p : ℕ × ℕ). n + one p) a (zip w s) ≡ a + costs (length w) 1 0 w s
+costs_pairs a [] [] l = omega arith
+costs_pairs a [] (y ∷ s) l = absurd (omega arith)
+costs_pairs a (x ∷ w) [] l = absurd (omega arith)
+costs_pairs a (x ∷ w) (y ∷ s) l =
+    let r = costs_pairs (a + one (x, y)) w s (omega arith) in
+    let f = costs_first (length w) x y w s in
+    omega (arith, r, f, one_is x y)
+
+-- one for each place where the two differ, added up
+pub costs_places : (a k i : ℕ) (w s : List ℕ) → fold (λ (n j : ℕ). n + (if eqb (get_or s j 0) (get_or w j 0) then 0 else 1)) a (range_with_len i k) ≡ a + costs k 1 i w s
+costs_places a zero i w s = omega arith
+costs_places a (suc k) i w s =
+    let r = costs_places (a + (if eqb (get_or s i 0) (get_or w i 0) then 0 else 1)) k (i + 1) w s in
+    omega (arith, r)
 
 -- what differs in a piece differs there in the whole
 mid_at : (a n i : ℕ) (xs : List ℕ) → i < n → get_or (mid_of a n xs) i 0 ≡ get_or xs (a + i) 0
@@ -155,6 +179,25 @@ read_up_to w h i e l =
 pub read_all : (w h : List ℕ) (i : ℕ) → i ≡ diff_from 0 w h → length w ≤ i → length w ≡ read_to w h
 unfolding read_to
 read_all w h i e l = sym (if_false (ltb (diff_from 0 w h) (length w)) (diff_from 0 w h + 1) (length w) (le-ltb (diff_from 0 w h) (length w) (subst (λ (j : ℕ). length w ≤ j) e l)))
+
+-- a walk ends at the last place, or before
+next_most : (k i : ℕ) (w s : List ℕ) → next_diff k i w s ≤ i + k
+next_most zero i w s = omega arith
+next_most (suc k) i w s =
+    let r = next_most k (i + 1) w s in
+    if_ind (λ (n : ℕ). n ≤ i + suc k) (eqb (get_or s i 0) (get_or w i 0)) (next_diff k (i + 1) w s) i (λ e. omega arith) (λ e. omega arith)
+
+pub diff_most : (w s : List ℕ) → diff_from 0 w s ≤ length w
+unfolding diff_from
+diff_most w s = let r = next_most (length w - 0) 0 w s in omega arith
+
+-- .. in one number
+pub read_least : (w h : List ℕ) → min (diff_from 0 w h + 1) (length w) ≡ read_to w h
+read_least w h = go (cases_lt (diff_from 0 w h) (length w))
+  where
+    go : (diff_from 0 w h < length w) ⊎ (length w ≤ diff_from 0 w h) → min (diff_from 0 w h + 1) (length w) ≡ read_to w h
+    go (inr l) = (let e : min (diff_from 0 w h + 1) (length w) ≡ length w = omega arith in e) ∙ read_all w h (diff_from 0 w h) refl l
+    go (inl l) = (let e : min (diff_from 0 w h + 1) (length w) ≡ diff_from 0 w h + 1 = omega arith in e) ∙ read_up_to w h (diff_from 0 w h) refl l
 
 -- where no bit must rise, every unit held keeps the bits wanted
 unrisen : (n i : ℕ) (w s : List ℕ) → rises n i w s ≡ false → (j : ℕ) → j < n → must_rise (get_or s (i + j) 0) (get_or w (i + j) 0) ≡ false

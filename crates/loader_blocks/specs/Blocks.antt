@@ -1,5 +1,5 @@
 -- What the stages of a load do to a block and to scratch, and what they cost in cycles. Lists are of units but where bytes are said.
-use Rattle.std.specs.Prelude.{◌≡◌, Bool, false, not, ◌&&◌, List, ℕ, zero, suc, ◌+◌, ◌≤◌, ◌<◌, length, get_or, set, replicate, eqb, ltb}
+use Rattle.std.specs.Prelude.{◌≡◌, Bool, false, not, ◌&&◌, List, ℕ, zero, suc, ◌+◌, ◌≤◌, ◌<◌, length, get_or, replicate, eqb, ltb}
 use Rattle.std.specs.Prelude.{leb, if◌then◌else◌}
 use Rattle.std.specs.Int.Bits.{bit_and}
 use Rattle.common.specs.Lists.{overwritten}

@@ -51,15 +51,11 @@ fn rises(wanted: &[u8], scratch: &[u8]) -> bool
     requires { length scratch.now ≡ length wanted.now }
     ensures { result ≡ rises_in wanted.now scratch.now }
 {
-    let n = wanted.len();
-    let mut bits: u8 = 0;
-    let mut i = 0;
-    while i < n {
-        let b = risen(scratch[i], wanted[i]);
-        bits = bits | b;
-        i += 1;
-    }
-    !(bits == 0)
+    let bits = wanted
+        .iter()
+        .zip(scratch)
+        .fold(0, |bits, (w, s)| bits | risen(*s, *w));
+    bits != 0
 }
 
 // One where two units differ.
@@ -78,15 +74,11 @@ fn unlike_piece(wanted: &[u8], scratch: &[u8]) -> u8
     requires { (length scratch.now ≡ length wanted.now) × (length wanted.now ≤ 192) }
     ensures { result ≡ costs (length wanted.now) 1 0 wanted.now scratch.now }
 {
-    let n = wanted.len();
-    let mut count: u8 = 0;
-    let mut i = 0;
-    while i < n {
-        let c = unlike(units::wide(scratch[i]), units::wide(wanted[i]));
-        count += c as u8;
-        i += 1;
-    }
-    count
+    wanted
+        .iter()
+        .zip(scratch)
+        .map(|(w, s)| u8::from(s != w))
+        .sum()
 }
 
 // Where the piece that begins at i ends: after 192 bytes, or with the last.
@@ -101,6 +93,7 @@ fn piece_end(i: usize, n: usize) -> usize
 }
 
 // How many bytes differ, piece by piece.
+// Kept: with chunks(192) of both a load of 512 bytes takes 1,039 instructions, not 959, and one of 4,096 takes 6,952, not 6,457.
 fn unlike_bytes(wanted: &[u8], scratch: &[u8]) -> u32
     requires { (length scratch.now ≡ length wanted.now) × (length wanted.now ≤ 16777216) }
     ensures { result ≡ costs (length wanted.now) 1 0 wanted.now scratch.now }
@@ -123,20 +116,19 @@ fn unlike_words(wanted: &[u8], scratch: &[u8]) -> u32
     ensures { result ≡ costs (length (pairs wanted.now)) 1 0 (pairs wanted.now) (pairs scratch.now) }
 {
     let m = wanted.len();
-    let n = units::units_in(true, m);
-    let mut count: u32 = 0;
-    let mut i = 0;
-    while i < n {
-        let u = units::get_word(&scratch[0..m], WordAddress { word: i });
-        let v = units::get_word(wanted, WordAddress { word: i });
-        let c = unlike(u, v);
-        count += c;
-        i += 1;
-    }
-    count
+    let s = &scratch[..m];
+    (0..units::units_in(true, m))
+        .map(|i| {
+            unlike(
+                units::get_word(s, WordAddress { word: i }),
+                units::get_word(wanted, WordAddress { word: i }),
+            )
+        })
+        .sum()
 }
 
 // How many units differ.
+// Kept: one walk over units of either width takes 5,691 instructions for 512 bytes, not 304, and 2,876 for 256 words, not 655.
 fn unlike_units(word: bool, wanted: &[u8], scratch: &[u8]) -> u32
     requires { (length scratch.now ≡ length wanted.now) × (length wanted.now ≤ 16777216) }
     ensures { result
@@ -153,11 +145,8 @@ fn keep_bits(held: &mut [u8], wanted: &[u8])
     requires { Falling held.old wanted.now }
     ensures { held.new ≡ wanted.now }
 {
-    let n = wanted.len();
-    let mut i = 0;
-    while i < n {
-        held[i] = held[i] & wanted[i];
-        i += 1;
+    for (i, h) in held.iter_mut().enumerate() {
+        *h &= wanted[i];
     }
 }
 
@@ -235,80 +224,50 @@ pub fn load_block(
     }
 }
 
-// The reads of a verify, byte by byte up to the first that differs: its place, or the block's length.
-fn verify_bytes(held: &[u8], wanted: &[u8], scratch: &mut [u8]) -> usize
-    requires { (length held.now ≡ length wanted.now) × (length scratch.old ≡ length wanted.now) }
-    ensures result { result ≡ diff_from 0 wanted.now held.now }
-    ensures scratch_left { scratch.new
-        ≡ overwritten (read_to wanted.now held.now) held.now scratch.old }
-{
-    let n = wanted.len();
-    let mut i = 0;
-    while i < n {
-        let b = held[i];
-        scratch[i] = b;
-        if b != wanted[i] {
-            return i;
-        }
-        i += 1;
-    }
-    i
-}
-
-// .. word by word.
-fn verify_words(held: &[u8], wanted: &[u8], scratch: &mut [u8]) -> usize
-    requires { (length (pairs held.now) ≡ length (pairs wanted.now))
-        × (length (pairs scratch.old) ≡ length (pairs wanted.now)) }
-    ensures result { result ≡ diff_from 0 (pairs wanted.now) (pairs held.now) }
-    ensures scratch_left { pairs scratch.new
-        ≡ overwritten (read_to (pairs wanted.now) (pairs held.now)) (pairs held.now)
-        (pairs scratch.old) }
-{
-    let n = units::units_in(true, wanted.len());
-    let mut i = 0;
-    while i < n {
-        let v = units::get_word(held, WordAddress { word: i });
-        units::put_word(scratch, WordAddress { word: i }, v);
-        let u = units::get_word(wanted, WordAddress { word: i });
-        if v != u {
-            return i;
-        }
-        i += 1;
-    }
-    i
-}
-
-// Two stretches of bytes are the same: a sufficient test, by one walk.
-fn are_same(held: &[u8], wanted: &[u8]) -> bool
+// The first unit that differs, or their number. The width is told apart here, and what is held is lent as a part as long as what is
+// wanted, so that the compiler knows both in each walk.
+fn first_unlike(word: bool, held: &[u8], wanted: &[u8]) -> usize
     requires { length held.now ≡ length wanted.now }
-    ensures { result ≡ true → held.now ≡ wanted.now }
+    ensures { result ≡ diff_from 0 (units word wanted.now) (units word held.now) }
 {
-    let n = wanted.len();
-    let mut bits: u8 = 0;
-    let mut i = 0;
-    while i < n {
-        bits = bits | (held[i] ^ wanted[i]);
-        i += 1;
+    let h = &held[..wanted.len()];
+    if word {
+        return loader_walk::diff_from(true, 0, wanted, h);
     }
-    bits == 0
+    loader_walk::diff_from(false, 0, wanted, h)
 }
 
-// The reads of a verify, of either width: where nothing differs, all at once.
-fn verify_all(word: bool, held: &[u8], wanted: &[u8], scratch: &mut [u8]) -> usize
-    requires { (length held.now ≡ length wanted.now) × (length scratch.old ≡ length wanted.now) }
+// The reads of a verify up to the first unit that differs. It stays apart, so that a verify of what is held as wanted is short.
+#[inline(never)]
+fn verify_to_first(word: bool, held: &[u8], wanted: &[u8], scratch: &mut [u8]) -> usize
+    requires { (length held.now ≡ length wanted.now) × (length scratch.old ≡ length wanted.now)
+        × (length wanted.now ≤ 16777216) }
     ensures result { result ≡ diff_from 0 (units word wanted.now) (units word held.now) }
     ensures scratch_left { units word scratch.new
         ≡ overwritten (read_to (units word wanted.now) (units word held.now)) (units word held.now)
         (units word scratch.old) }
 {
-    if are_same(held, wanted) {
+    let n = units::units_in(word, wanted.len());
+    let i = first_unlike(word, held, wanted);
+    units::leave_units(word, scratch, 0, common::least(i + 1, n), held);
+    i
+}
+
+// The reads of a verify, of either width: where nothing differs, all at once.
+#[inline(always)]
+fn verify_all(word: bool, held: &[u8], wanted: &[u8], scratch: &mut [u8]) -> usize
+    requires { (length held.now ≡ length wanted.now) × (length scratch.old ≡ length wanted.now)
+        × (length wanted.now ≤ 16777216) }
+    ensures result { result ≡ diff_from 0 (units word wanted.now) (units word held.now) }
+    ensures scratch_left { units word scratch.new
+        ≡ overwritten (read_to (units word wanted.now) (units word held.now)) (units word held.now)
+        (units word scratch.old) }
+{
+    if held == wanted {
         common::copy(scratch, held);
         return units::units_in(word, wanted.len());
     }
-    if word {
-        return verify_words(held, wanted, scratch);
-    }
-    verify_bytes(held, wanted, scratch)
+    verify_to_first(word, held, wanted, scratch)
 }
 
 // A verify of a block: the place of the first unit that differs, or the number of units. Nothing where the three are not alike.

@@ -12,8 +12,8 @@ use Rattle.common.proofs.Choice.{if_true, if_false, or_right}
 use Rattle.common.specs.Numbers.{row, given, numbered, NoRow}
 use Rattle.common.proofs.Numbers.{given_append, given_no_row, no_head}
 use Rattle.loader_run.specs.Runs.{lent_rows, lent_number, run_first}
-use Rattle.file_codec.specs.File.{refused, made, outcome_by, limit, length_wrong, blocks_in, blocks_rows, payload_of, read_rows, reader_of, judged_as}
-use Rattle.file_codec.specs.declared.Judged.TheVariants.{Sound, Refused}
+use Rattle.file_codec.specs.File.{refused, made, limit, length_wrong, blocks_in, blocks_rows, payload_of, read_rows, reader_of}
+use Rattle.file_codec.proofs.Outcomes.{outcome_lets, outcome_refuses}
 use Rattle.file_codec.proofs.Tables.{blocks_numbered}
 use Rattle.loader_from_file.specs.Loads.{file_rows, file_number, load_rows, load_number}
 use Rattle.loader_run.specs.declared.Job.{Job}
@@ -78,30 +78,11 @@ reader_number f asked n h =
     ap (λ (t : Bool). given (row 30 t ∷ blocks_rows (blocks_in f) (get_or f 0 0) 0 (blocks_in f) f (row 35 (not (eqb (get_or f 0 0) asked)) ∷ [])))
     (or_none (length_wrong limit (length f)) (ltb n (length f)) (le-ltb n (length f) h))
 
--- the number of an outcome, told by the judgement
-sound_none : (n k : ℕ) (bytes : List ℕ) → judged_as (outcome_by n bytes) ≡ Sound k → n ≡ 0
-sound_none n k bytes e = go (eqb n 0) refl
-  where
-    go : (t : Bool) → eqb n 0 ≡ t → n ≡ 0
-    go true q = eqb-true n 0 q
-    go false q =
-        let v : Refused n ≡ Sound k = sym (ap judged_as (if_false (eqb n 0) (made bytes) (refused n) q)) ∙ e in
-        absurd (let z : ◌≡◌ {A = ℕ} 0 1 = cc in omega arith)
-
-unsound_number_lem : (n m : ℕ) (bytes : List ℕ) → judged_as (outcome_by n bytes) ≡ Refused m → n ≡ m
-unsound_number_lem n m bytes e = go (eqb n 0) refl
-  where
-    go : (t : Bool) → eqb n 0 ≡ t → n ≡ m
-    go false q = let v : Refused n ≡ Refused m = sym (ap judged_as (if_false (eqb n 0) (made bytes) (refused n) q)) ∙ e in cc
-    go true q =
-        let v : Sound (length bytes) ≡ Refused m = sym (ap judged_as (if_true (eqb n 0) (made bytes) (refused n) q)) ∙ e in
-        absurd (let z : ◌≡◌ {A = ℕ} 0 1 = cc in omega arith)
-
--- the file's number, told by the reader's judgement
-pub sound_0 : (f : List ℕ) (asked n k : ℕ) → length f ≤ n → judged_as (reader_of limit f asked) ≡ Sound k → file_number f asked n ≡ 0
+-- the file's number, told by what the reader makes of it
+pub sound_0 : (f : List ℕ) (asked n : ℕ) (bytes : List ℕ) → length f ≤ n → reader_of limit f asked ≡ made bytes → file_number f asked n ≡ 0
 unfolding reader_of
-sound_0 f asked n k h e = reader_number f asked n h ∙ sound_none (given (read_rows limit f asked [])) k (payload_of (blocks_in f) f) e
+sound_0 f asked n bytes h e = reader_number f asked n h ∙ (outcome_lets (given (read_rows limit f asked [])) (payload_of (blocks_in f) f) bytes e).0
 
-pub refused_m : (f : List ℕ) (asked n m : ℕ) → length f ≤ n → judged_as (reader_of limit f asked) ≡ Refused m → file_number f asked n ≡ m
+pub refused_m : (f : List ℕ) (asked n m : ℕ) → length f ≤ n → reader_of limit f asked ≡ refused m → file_number f asked n ≡ m
 unfolding reader_of
-refused_m f asked n m h e = reader_number f asked n h ∙ unsound_number_lem (given (read_rows limit f asked [])) m (payload_of (blocks_in f) f) e
+refused_m f asked n m h e = reader_number f asked n h ∙ outcome_refuses (given (read_rows limit f asked [])) m (payload_of (blocks_in f) f) e

@@ -5,7 +5,6 @@
 ghost use Rattle.std.specs.Prelude.{◌≡◌, ◌≤◌, length};
 ghost use Rattle.loader_from_file.specs.Loads.{file_number, wanted_by, load_number, load_left};
 
-use file_codec::Judged;
 use loader_run::{Job, Ran};
 
 // Refusals 30 to 35 and 38 of a file for the letter asked and a block of n bytes, or 0.
@@ -15,10 +14,9 @@ pub fn file_number(file: &[u8], asked: u8, n: usize) -> u8
     if n < file.len() {
         return 30;
     }
-    let judged = file_codec::judge(file, asked);
-    match judged {
-        Judged::Sound(_) => 0,
-        Judged::Refused(m) => m,
+    match file_codec::judge(file, asked) {
+        Ok(_) => 0,
+        Err(refusal) => refusal.number(),
     }
 }
 

@@ -11,7 +11,7 @@ use Rattle.common.specs.Numbers.{NoRow}
 use Rattle.common.proofs.Numbers.{no_row_given}
 use Rattle.common.proofs.Choice.{if_true}
 use Rattle.loader_run.specs.Runs.{lent_rows, lent_number, run_first}
-use Rattle.file_codec.specs.File.{limit, refused, made, reader_of, writer_of, judged_as}
+use Rattle.file_codec.specs.File.{limit, refused, made, reader_of, writer_of}
 use Rattle.file_claims.proofs.Claims.{other_letter, changed_byte_here, blank_file}
 use Rattle.loader_from_file.specs.Loads.{file_number, load_number, load_refused, load_left}
 use Rattle.loader_from_file.proofs.Judging.{file_after, none_refuses, no_longer, refused_m}
@@ -31,7 +31,7 @@ module _ (j : Job) (xs w sc f : List ℕ) (asked : ℕ) (m : ℕ) (z : m ≡ 0 �
       some : load_number j (length xs) (length w) (length sc) f asked ≡ 0 → ⊥
       some q =
           let n = (none_refuses j (length xs) (length w) (length sc) f asked q).1 in
-          z (sym (refused_m f asked (length w) m (no_longer f asked (length w) n) (ap judged_as e)) ∙ n)
+          z (sym (refused_m f asked (length w) m (no_longer f asked (length w) n) e) ∙ n)
 
   -- it is the reader's number where a run's tests give none and the file fits the block
   pub by_reader : NoRow (lent_rows j (length xs) (length w) (length sc)) → length f ≤ length w → load_left j xs w sc f asked ≡ load_refused m j.state xs w sc
@@ -40,7 +40,7 @@ module _ (j : Job) (xs w sc f : List ℕ) (asked : ℕ) (m : ℕ) (z : m ≡ 0 �
       let q : load_number j (length xs) (length w) (length sc) f asked ≡ m =
       file_after j (length xs) (length w) (length sc) f asked
       ∙ if_true (eqb (lent_number j (length xs) (length w) (length sc)) 0) (file_number f asked (length w)) (lent_number j (length xs) (length w) (length sc)) (eq-eqb _ 0 n)
-      ∙ refused_m f asked (length w) m h (ap judged_as e) in
+      ∙ refused_m f asked (length w) m h e in
       never ∙ ap (λ (i : ℕ). load_refused i j.state xs w sc) q
 
 module _ (j : Job) (xs w sc : List ℕ) (ℓ : ℕ) (payload f : List ℕ) (made_of : writer_of limit ℓ payload ≡ made f) (asked : ℕ) where

@@ -20,14 +20,7 @@ use model_types::{Cycle, Kind};
 pub fn is_listed(n: u32, polls: &[u32]) -> bool
     ensures { result ≡ listed n polls.now }
 {
-    let mut i = 0;
-    while i < polls.len() {
-        if polls[i] == n {
-            return true;
-        }
-        i += 1;
-    }
-    false
+    polls.contains(&n)
 }
 
 fn hold_as(step: Step, number: u32, place: usize, waits: u32, suspended: bool) -> Hold

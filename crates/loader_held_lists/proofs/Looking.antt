@@ -1,7 +1,8 @@
--- One round of a walk over a list that looks for a number, and its end; a block's end as an address; the room in bytes and in units.
+-- A search for a number in a list, and one round of it; a block's end as an address; the room in bytes and in units.
 use mathlib.Core.Path.{◌≡◌, refl, sym, ap, ◌∙◌}
 use mathlib.Core.Bool.{Bool, true, false, ◌||◌}
-use mathlib.Core.List.{List}
+use mathlib.Core.List.{List, [], ◌∷◌}
+use Rattle.std.specs.List.{list_any}
 use Prim.Native.Nat.{ℕ, ◌+◌, ◌*◌, ◌/◌, ◌≤◌, ◌<◌}
 use native.Mathlib.Omega.{arith}
 use native.Mathlib.Numerals.{add-one}
@@ -11,18 +12,19 @@ use lib.Dec.{ltb}
 use borrow.Author.Tests.{lt-ltb, le-ltb, ltb-true, ltb-false}
 use Rattle.units.specs.Units.{units_in, bytes_in}
 use Rattle.device.specs.declared.Part.{Part}
-use Rattle.device.specs.Parts.{size_of, start_of, length_of}
+use Rattle.device.specs.Parts.{start_of, length_of}
 use Rattle.device.proofs.Claims.{blocks_end_inside}
 use Rattle.device.proofs.BlockAddresses.{size_small}
 use Rattle.loader_held_lists.specs.Listings.{some_of}
 
+-- a search among all numbers says it
+pub some_any : (f : ℕ → Bool) (xs : List ℕ) → list_any f xs ≡ some_of f xs
+some_any f [] = refl
+some_any f (x ∷ xs) = ap (λ (b : Bool). f x || b) (some_any f xs)
+
 -- what is left to look at, from place i on: the number there, then the rest
 pub some_round : (f : ℕ → Bool) (xs : List ℕ) (i : ℕ) → i < length xs → some_of f (drop i xs) ≡ (f (get_or xs i 0) || some_of f (drop (i + 1) xs))
 some_round f xs i h = rw (add-one i) (ap (some_of f) (drop-cons xs i 0 h))
-
--- .. found there
-pub some_found : (f : ℕ → Bool) (xs : List ℕ) (i : ℕ) → i < length xs → f (get_or xs i 0) ≡ true → some_of f (drop i xs) ≡ true
-some_found f xs i h e = some_round f xs i h ∙ ap (λ (b : Bool). b || some_of f (drop (i + 1) xs)) e
 
 -- .. not there, so in the rest
 pub some_later : (f : ℕ → Bool) (xs : List ℕ) (i : ℕ) → i < length xs → f (get_or xs i 0) ≡ false → some_of f (drop i xs) ≡ some_of f (drop (i + 1) xs)

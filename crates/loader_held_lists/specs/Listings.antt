@@ -1,6 +1,6 @@
 -- The lists that a load with interruptions is lent, and their tests: the addresses read in each interruption, and the room for what is
 -- read. Addresses are those of units; the room is counted in bytes.
-use Rattle.std.specs.Prelude.{Bool, true, false, ◌&&◌, ◌||◌, List, [], ◌∷◌, ℕ, ◌+◌, length, ltb, leb}
+use Rattle.std.specs.Prelude.{Bool, false, ◌&&◌, ◌||◌, List, [], ◌∷◌, ℕ, ◌+◌, length, ltb, leb}
 use Rattle.common.specs.Numbers.{Row, row, given}
 use Rattle.units.specs.Units.{bytes_in}
 use Rattle.device.specs.declared.Part.{Part}

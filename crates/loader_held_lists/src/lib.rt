@@ -19,14 +19,7 @@ fn lies(endless: bool, from: usize, to: usize, address: u32) -> bool
 fn some_lies(endless: bool, from: usize, to: usize, addresses: &[u32]) -> bool
     ensures { result ≡ some_of (λ x. (endless || ltb x to) && leb from x) addresses.now }
 {
-    let mut i = 0;
-    while i < addresses.len() {
-        if lies(endless, from, to, addresses[i]) {
-            return true;
-        }
-        i += 1;
-    }
-    false
+    addresses.iter().any(|a| lies(endless, from, to, *a))
 }
 
 // The first address behind a block.

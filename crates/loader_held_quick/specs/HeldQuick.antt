@@ -1,6 +1,6 @@
 -- What interruptions add to a load, worked out without making them: the listed polls are met one after the other, each adds its cycles, and
 -- the room is filled once. bs are the addresses read, ps the polls told.
-use Rattle.std.specs.Prelude.{◌≡◌, Bool, true, false, ◌&&◌, List, ℕ, ◌+◌, ◌*◌, ◌≤◌, ◌<◌, length, eqb, ltb, leb, if◌then◌else◌}
+use Rattle.std.specs.Prelude.{◌≡◌, Bool, true, false, ◌&&◌, List, ℕ, ◌+◌, ◌*◌, ◌≤◌, ◌<◌, eqb, ltb, leb, if◌then◌else◌}
 use Rattle.device.specs.declared.Device.{Device}
 use Rattle.units.specs.Units.{units}
 use Rattle.loader_run.specs.declared.Job.{Job}

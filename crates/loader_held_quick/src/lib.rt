@@ -47,10 +47,8 @@ fn next_listed(from: u32, past: u32, polls: &[u32]) -> u32
     ensures { NextListed from past polls.now result }
 {
     let mut r = past;
-    let mut i = 0;
-    while i < polls.len() {
-        r = lower(from, r, polls[i]);
-        i += 1;
+    for p in polls {
+        r = lower(from, r, *p);
     }
     r
 }
@@ -91,16 +89,13 @@ fn added_rising(d: Device, polls: &[u32], addresses: &[u32]) -> u64
     let k = addresses.len();
     let mut n: u32 = 0;
     let mut added: u64 = 0;
-    let mut i = 0;
-    while i < polls.len() {
-        let p = polls[i];
-        if p <= n {
+    for p in polls {
+        if *p <= n {
             return 9000000001;
         }
-        let c = cost_up(d, k, e, p);
+        let c = cost_up(d, k, e, *p);
         added += c;
-        n = p;
-        i += 1;
+        n = *p;
     }
     added
 }
@@ -152,12 +147,9 @@ fn fill_room(word: bool, array: &[u8], addresses: &[u32], room: &mut [u8])
         ≡ filled_by (units word array.now) addresses.now (units word room.old) }
     ensures room_spare { spare word room.new ≡ spare word room.old }
 {
-    let n = addresses.len();
-    let mut i = 0;
-    while i < n {
-        let v = unit_at(word, array, addresses[i]);
+    for (i, a) in addresses.iter().enumerate() {
+        let v = unit_at(word, array, *a);
         units::put_unit(word, room, i, v);
-        i += 1;
     }
 }
 

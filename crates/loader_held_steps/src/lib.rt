@@ -29,48 +29,19 @@ pub struct HeldResponse {
 fn is_interrupting(step: Step) -> bool
     ensures { result ≡ interrupting step }
 {
-    match step {
-        Step::Usual => false,
-        Step::Halting => true,
-        Step::Looking => true,
-        Step::Settling => true,
-        Step::ArrayAsking => true,
-        Step::Fetching => true,
-        Step::Resuming => true,
-    }
+    !matches!(step, Step::Usual)
 }
 
 fn is_fetching(step: Step) -> bool
     ensures { result ≡ fetching step }
 {
-    match step {
-        Step::Usual => false,
-        Step::Halting => false,
-        Step::Looking => false,
-        Step::Settling => false,
-        Step::ArrayAsking => false,
-        Step::Fetching => true,
-        Step::Resuming => false,
-    }
+    matches!(step, Step::Fetching)
 }
 
 fn waits_erase(stage: Stage) -> bool
     ensures { result ≡ waits_erase stage }
 {
-    match stage {
-        Stage::Clearing => false,
-        Stage::Opening => false,
-        Stage::Reading => false,
-        Stage::EraseAsking => false,
-        Stage::EraseConfirming => false,
-        Stage::EraseWaiting => true,
-        Stage::ProgramAsking => false,
-        Stage::ProgramSending => false,
-        Stage::ProgramWaiting => false,
-        Stage::Closing => false,
-        Stage::Verifying => false,
-        Stage::Ended(_) => false,
-    }
+    matches!(stage, Stage::EraseWaiting)
 }
 
 // Refusal 3 of the loader's record.

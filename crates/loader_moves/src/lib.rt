@@ -1,7 +1,7 @@
 // The loader's moves: the record after a read's data.
 #![tactic(auto)]
 
-ghost use Rattle.std.specs.Prelude.{◌≡◌, ◌-◌};
+ghost use Rattle.std.specs.Prelude.{◌≡◌};
 ghost use Rattle.units.specs.Units.{units};
 ghost use Rattle.loader_moves.specs.Moves.{moved_to, ended_by, ended_apart, loaded_stage, onward, after_reads, after_read};
 ghost use Rattle.loader_moves.specs.Moves.{poll_more, erase_polled, program_polled, verify_more};
@@ -15,18 +15,12 @@ use loader_walk::{diff_from, rises_in, units_of};
 pub fn moved(l: Loader, stage: Stage, place: usize, polls: u32) -> Loader
     ensures { result ≡ moved_to l stage place polls }
 {
-    let part = l.part;
-    let pins = l.pins;
-    let verify = l.verify;
     Loader {
-        part: part,
-        pins: pins,
-        block: l.block,
-        stage: stage,
-        place: place,
-        polls: polls,
-        verify: verify,
+        stage,
+        place,
+        polls,
         high: false,
+        ..l
     }
 }
 
@@ -48,54 +42,42 @@ fn loaded_stage(verify: bool) -> Stage
 }
 
 // On to the first differing unit from `from` on, or to what follows the last program.
+#[tactic(auto, unfolding(crate::specs::Moves::onward))]
 fn onward(l: Loader, from: usize, wanted: &[u8], scratch: &[u8]) -> Loader
     ensures { result ≡ onward l from (units l.part.word wanted.now) (units l.part.word scratch.now) }
 {
-    let part = l.part;
-    let word = part.word;
+    let word = l.part.word;
     let i = diff_from(word, from, wanted, scratch);
     if i < units_of(word, wanted) {
         return moved(l, Stage::ProgramAsking, i, 0);
     }
-    let verify = l.verify;
-    let stage = loaded_stage(verify);
+    let stage = loaded_stage(l.verify);
     moved(l, stage, 0, 0)
 }
 
+#[tactic(auto, unfolding(crate::specs::Moves::after_reads))]
 fn after_reads(l: Loader, wanted: &[u8], scratch: &[u8]) -> Loader
     ensures { result ≡ after_reads l (units l.part.word wanted.now) (units l.part.word scratch.now) }
 {
-    let part = l.part;
-    let word = part.word;
-    if rises_in(word, wanted, scratch) {
+    if rises_in(l.part.word, wanted, scratch) {
         return moved(l, Stage::EraseAsking, 0, 0);
     }
     onward(l, 0, wanted, scratch)
 }
 
-// The last place of n units.
-fn last(n: usize) -> usize
-    ensures { result ≡ n - 1 }
-{
-    if n == 0 {
-        return 0;
-    }
-    n - 1
-}
-
 // A unit of the first reads is in.
+#[tactic(auto, unfolding(crate::specs::Moves::after_read))]
 pub fn read_more(l: Loader, wanted: &[u8], scratch: &[u8]) -> Loader
     ensures { result ≡ after_read l (units l.part.word wanted.now) (units l.part.word scratch.now) }
 {
-    let part = l.part;
-    let word = part.word;
-    let end = last(units_of(word, wanted));
+    let end = units_of(l.part.word, wanted).saturating_sub(1);
     if l.place < end {
         return moved(l, Stage::Reading, l.place + 1, 0);
     }
     after_reads(l, wanted, scratch)
 }
 
+#[tactic(auto, unfolding(crate::specs::Moves::poll_more))]
 fn poll_more(l: Loader, stage: Stage) -> Loader
     ensures { result ≡ poll_more l stage }
 {
@@ -106,6 +88,7 @@ fn poll_more(l: Loader, stage: Stage) -> Loader
 }
 
 // A poll of the erase is in.
+#[tactic(auto, unfolding(crate::specs::Moves::erase_polled))]
 pub fn erase_polled(l: Loader, b: u8, wanted: &[u8], scratch: &[u8]) -> Loader
     ensures { result ≡ erase_polled l b (units l.part.word wanted.now) (units l.part.word scratch.now) }
 {
@@ -119,6 +102,7 @@ pub fn erase_polled(l: Loader, b: u8, wanted: &[u8], scratch: &[u8]) -> Loader
     poll_more(l, Stage::EraseWaiting)
 }
 
+#[tactic(auto, unfolding(crate::specs::Inner::past))]
 fn past(p: usize, n: usize) -> usize
     ensures { result ≡ past p n }
 {
@@ -129,15 +113,15 @@ fn past(p: usize, n: usize) -> usize
 }
 
 // A poll of a program is in.
+#[tactic(auto, unfolding(crate::specs::Moves::program_polled))]
 pub fn program_polled(l: Loader, b: u8, wanted: &[u8], scratch: &[u8]) -> Loader
     ensures { result ≡ program_polled l b (units l.part.word wanted.now) (units l.part.word scratch.now) }
 {
-    let part = l.part;
-    let word = part.word;
     if is_ready(b) {
         let n = program_end(b);
         if n == 0 {
-            return onward(l, past(l.place, units_of(word, wanted)), wanted, scratch);
+            let from = past(l.place, units_of(l.part.word, wanted));
+            return onward(l, from, wanted, scratch);
         }
         return ended_by(l, n);
     }
@@ -148,29 +132,21 @@ pub fn program_polled(l: Loader, b: u8, wanted: &[u8], scratch: &[u8]) -> Loader
 fn ended_apart(l: Loader, v: u16, wanted: u16) -> Loader
     ensures { result ≡ ended_apart l v wanted }
 {
-    let part = l.part;
-    let pins = l.pins;
-    let verify = l.verify;
-    let word = part.word;
     Loader {
-        part: part,
-        pins: pins,
-        block: l.block,
         stage: Stage::Ended(25),
-        place: l.place,
         polls: 0,
-        verify: verify,
-        high: word & (v % 256 == wanted % 256),
+        high: l.part.word & (v % 256 == wanted % 256),
+        ..l
     }
 }
 
 // A unit of the verify is in.
+#[tactic(auto, unfolding(crate::specs::Moves::verify_more))]
 pub fn verify_more(l: Loader, v: u16, wanted: &[u8]) -> Loader
     ensures { result ≡ verify_more l v (units l.part.word wanted.now) }
 {
-    let part = l.part;
-    let word = part.word;
-    let end = last(units_of(word, wanted));
+    let word = l.part.word;
+    let end = units_of(word, wanted).saturating_sub(1);
     let want = units::get_unit(word, wanted, l.place);
     if units::carry(word, v) == want {
         if l.place < end {

@@ -54,11 +54,7 @@ pub struct Held {
 fn is_refused(seen: Seen) -> bool
     ensures { result ≡ is_refused seen }
 {
-    match seen {
-        Seen::NoData => false,
-        Seen::Data(_) => false,
-        Seen::Refused(_) => true,
-    }
+    matches!(seen, Seen::Refused(_))
 }
 
 fn number_in(seen: Seen) -> u16
@@ -212,21 +208,13 @@ fn drive(j: Job, wanted: &[u8], scratch: &mut [u8], array: &mut [u8]) -> Ran
 fn under_way(ph: Phase) -> bool
     ensures { result ≡ under_way ph }
 {
-    match ph {
-        Phase::Free => false,
-        Phase::EraseAwaited => true,
-        Phase::DataAwaited => true,
-        Phase::Programming(_) => true,
-        Phase::Erasing => true,
-        Phase::Suspending(_) => true,
-        Phase::Suspended => true,
-    }
+    !matches!(ph, Phase::Free)
 }
 
 fn wrong_array(part: Part, array: usize) -> bool
     ensures { result ≡ not (eqb array (size_of part)) }
 {
-    !(array == device::size(part))
+    array != device::size(part)
 }
 
 // Refusals 1 to 4 and 10 to 12, the first in that order, or 0. The lengths are in units.

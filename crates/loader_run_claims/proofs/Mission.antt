@@ -12,12 +12,14 @@ use lib.Dec.{eqb, ltb}
 use borrow.Author.Tests.{eq-eqb, ne_eqb, le-ltb, lt-ltb, ltb-true, ltb-false}
 use Rattle.model_types.specs.Cells.{Cells}
 use Rattle.std.specs.Prelude.{if◌then◌else◌}
-use Rattle.common.proofs.Choice.{if_false}
+use Rattle.common.proofs.Choice.{if_false, if_ind}
 use Rattle.common.specs.Lists.{overlaid}
 use Rattle.common.proofs.Bytes.{overlaid_before, overlaid_after}
 use Rattle.device.specs.declared.Part.{Part}
 use Rattle.device.specs.declared.Device.{Device}
-use Rattle.device.specs.Parts.{start_of, block_of, length_of, length_in}
+use Rattle.device.specs.declared.Shape.{Shape}
+use Rattle.device.specs.Parts.{row_of, in_words, shape_of, start_of, block_of, length_of, length_in}
+use Rattle.device.proofs.Rows.{by_rows}
 use Rattle.device.proofs.Claims.{blocks_end_inside}
 use Rattle.model_types.specs.declared.Pins.{Pins}
 use Rattle.model_types.specs.declared.Cycle.{Cycle}
@@ -132,6 +134,15 @@ cycles_long true d p a w ys =
     load_long d p a w ys (closing_by true p a (length w)) ∙ ap (λ (n : ℕ). load_formula d w ys + n) (closing_long true p a (length w)) ∙ sym (formula_load_verify d w ys)
 cycles_long false d p a w ys = load_long d p a w ys [] ∙ (let z : load_formula d w ys + 0 ≡ load_formula d w ys = omega arith in z)
 
+-- no part has an eighth block
+no_eighth : (part : Part) (k : ℕ) → length_in (shape_of part) (suc (suc (suc (suc (suc (suc (suc k))))))) ≡ 0
+unfolding shape_of row_of in_words length_in
+no_eighth part k =
+    let Past : Shape → Type 0 = λ s. length_in s (suc (suc (suc (suc (suc (suc (suc k))))))) ≡ 0 in
+    if_ind Past part.word (in_words (row_of part.number)) (row_of part.number)
+    (λ e. by_rows (λ s. Past (in_words s)) refl refl refl refl refl refl refl refl refl part.number)
+    (λ e. by_rows Past refl refl refl refl refl refl refl refl refl part.number)
+
 -- a block that is there is one of seven
 seven : (part : Part) (k : ℕ) → (length_of part k ≡ 0 → ⊥) → k < 7
 unfolding length_of length_in
@@ -142,7 +153,7 @@ seven part (suc (suc (suc zero))) h = omega arith
 seven part (suc (suc (suc (suc zero)))) h = omega arith
 seven part (suc (suc (suc (suc (suc zero))))) h = omega arith
 seven part (suc (suc (suc (suc (suc (suc zero)))))) h = omega arith
-seven part (suc (suc (suc (suc (suc (suc (suc k))))))) h = absurd (h refl)
+seven part (suc (suc (suc (suc (suc (suc (suc k))))))) h = absurd (h (no_eighth part k))
 
 -- one more erase, or none, of block k, as the counts have it
 own_count : (t : Bool) (v : Wear) (k : ℕ) → k < 7 → count_of v k ≤ stop → count_of (if t then worn v k else v) k ≡ min (count_of v k + (if t then 1 else 0)) stop

@@ -33,7 +33,7 @@ fn bad_record(n: usize, l: Loader) -> bool
     requires { n ≡ length_of l.part l.block }
     ensures { result ≡ bad_record l }
 {
-    (65534 < l.polls) | (!(n == 0) & (n <= l.place))
+    (65534 < l.polls) | ((n != 0) & (n <= l.place))
 }
 
 // Refusals 4, 10 and 11, by the block's length.
@@ -76,16 +76,14 @@ fn start_number(part: Part, p: Pins, block: u8, wanted: usize, scratch: usize) -
 fn step_number(l: Loader, wanted: usize, scratch: usize) -> u8
     ensures { result ≡ step_number l wanted scratch }
 {
-    let part = l.part;
-    let p = l.pins;
-    if device::unknown_part(part) {
+    if device::unknown_part(l.part) {
         return 1;
     }
-    let n = device::length(part, l.block);
+    let n = device::length(l.part, l.block);
     if bad_record(n, l) {
         return 3;
     }
-    setup_by(n, part, p, l.block, wanted, scratch)
+    setup_by(n, l.part, l.pins, l.block, wanted, scratch)
 }
 
 // A record at its beginning.
@@ -93,13 +91,13 @@ pub fn record_at(part: Part, p: Pins, block: u8, stage: Stage, verify: bool) -> 
     ensures { result ≡ record_at part p block stage verify }
 {
     Loader {
-        part: part,
+        part,
         pins: p,
-        block: block,
-        stage: stage,
+        block,
+        stage,
         place: 0,
         polls: 0,
-        verify: verify,
+        verify,
         high: false,
     }
 }
@@ -118,8 +116,7 @@ fn saying(stage: Stage, l: Loader, wanted: &[u8]) -> Saying
     ensures { result ≡ saying_in stage l (units l.part.word wanted.now) }
 {
     let e = stage_is(stage);
-    let ended = e.ended;
-    if ended {
+    if e.ended {
         return Saying::Over(e.end, end_address(l, e.end));
     }
     Saying::Out(out(l, wanted))
@@ -128,9 +125,8 @@ fn saying(stage: Stage, l: Loader, wanted: &[u8]) -> Saying
 fn response_at(l: Loader, wanted: &[u8]) -> Response
     ensures { result ≡ response_at l (units l.part.word wanted.now) }
 {
-    let stage = l.stage;
     Response {
-        saying: saying(stage, l, wanted),
+        saying: saying(l.stage, l, wanted),
         loader: l,
     }
 }

@@ -13,8 +13,7 @@ use model_types::{Cycle, Kind};
 pub fn first(l: Loader) -> u32
     ensures { result ≡ first_address l }
 {
-    let part = l.part;
-    device::start(part, l.block) as u32
+    device::start(l.part, l.block) as u32
 }
 
 // The address of the unit at the record's place, by the block's first address.
@@ -32,22 +31,18 @@ fn here(start: u32, l: Loader) -> u32
 pub(crate) fn byte_here(l: Loader) -> u32
     ensures { result ≡ byte_here l }
 {
-    let part = l.part;
-    let word = part.word;
-    let high = l.high;
     let a = first(l);
-    units::byte_at(word, here(a, l), high) as u32
+    units::byte_at(l.part.word, here(a, l), l.high) as u32
 }
 
 fn cycle_at(l: Loader, kind: Kind, address: u32, v: u16) -> Cycle
     ensures { result ≡ cycle_at l kind address v }
 {
-    let pins = l.pins;
     Cycle {
-        kind: kind,
-        pins: pins,
+        kind,
+        pins: l.pins,
         oe: 0,
-        address: address,
+        address,
         data: v,
     }
 }
@@ -76,18 +71,14 @@ fn carried_in(own: bool, command: u8, place: usize, word: bool, wanted: &[u8]) -
 pub fn cycle_in(stage: Stage, first: u32, here: u32, l: Loader, wanted: &[u8]) -> Cycle
     ensures { result ≡ cycle_at_stage stage first here l (units l.part.word wanted.now) }
 {
-    let part = l.part;
-    let word = part.word;
     let e = stage_is(stage);
-    let kind = e.kind;
-    let at_unit = e.here;
-    let own = e.wanted;
-    let address = address_in(at_unit, first, here);
+    let address = address_in(e.here, first, here);
+    let word = l.part.word;
     cycle_at(
         l,
-        kind,
+        e.kind,
         address,
-        carried_in(own, e.command, l.place, word, wanted),
+        carried_in(e.wanted, e.command, l.place, word, wanted),
     )
 }
 
@@ -95,7 +86,6 @@ pub fn cycle_in(stage: Stage, first: u32, here: u32, l: Loader, wanted: &[u8]) -
 pub fn out(l: Loader, wanted: &[u8]) -> Cycle
     ensures { result ≡ cycle_of l (units l.part.word wanted.now) }
 {
-    let stage = l.stage;
     let a = first(l);
-    cycle_in(stage, a, here(a, l), l, wanted)
+    cycle_in(l.stage, a, here(a, l), l, wanted)
 }

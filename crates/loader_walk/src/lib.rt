@@ -23,31 +23,25 @@ fn must_rise(held: u16, wanted: u16) -> bool
 pub fn rises_in(word: bool, wanted: &[u8], scratch: &[u8]) -> bool
     ensures { result ≡ rises_in (units word wanted.now) (units word scratch.now) }
 {
-    let n = units_of(word, wanted);
-    let mut i = 0;
-    while i < n {
-        if must_rise(
+    (0..units_of(word, wanted)).any(|i| {
+        must_rise(
             units::get_unit(word, scratch, i),
             units::get_unit(word, wanted, i),
-        ) {
-            return true;
-        }
-        i += 1;
-    }
-    false
+        )
+    })
 }
 
-// The first place from `from` on where the block differs from what is wanted, or its length.
+// The first place from `from` on where the block differs from what is wanted, or its length. It is laid into its callers, so that the
+// compiler may know the width.
+#[inline(always)]
 pub fn diff_from(word: bool, from: usize, wanted: &[u8], scratch: &[u8]) -> usize
     ensures { result ≡ diff_from from (units word wanted.now) (units word scratch.now) }
 {
     let n = units_of(word, wanted);
-    let mut i = from;
-    while i < n {
+    for i in from..n {
         if units::get_unit(word, scratch, i) != units::get_unit(word, wanted, i) {
             return i;
         }
-        i += 1;
     }
-    i
+    from.max(n)
 }

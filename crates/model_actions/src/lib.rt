@@ -25,49 +25,30 @@ const RESUMED: u8 = 0xFF - SR7 - SR6;
 const CLEARED: u8 = 0xFF - SR5 - SR4 - SR3;
 
 // The data of a cycle: in byte mode the high byte is not looked at.
+#[tactic(auto, unfolding(crate::specs::Performed::data_of))]
 fn data_of(part: Part, c: Cycle) -> u16
     ensures { result ≡ data_of part c }
 {
-    let word = part.word;
-    units::carry(word, c.data)
+    units::carry(part.word, c.data)
 }
 
 fn in_mode(m: Mode, s: State) -> State
     ensures { result ≡ in_mode m s }
 {
-    let ph = s.phase;
-    let w = s.wear;
-    State {
-        mode: m,
-        status: s.status,
-        phase: ph,
-        left: s.left,
-        address: s.address,
-        wear: w,
-    }
+    State { mode: m, ..s }
 }
 
 fn with_status(status: u8, s: State) -> State
     ensures { result ≡ with_status status s }
 {
-    let m = s.mode;
-    let ph = s.phase;
-    let w = s.wear;
-    State {
-        mode: m,
-        status: status,
-        phase: ph,
-        left: s.left,
-        address: s.address,
-        wear: w,
-    }
+    State { status, ..s }
 }
 
+#[tactic(auto, unfolding(crate::specs::Performed::unsupplied))]
 fn unsupplied(part: Part, c: Cycle, s: State) -> bool
     ensures { result ≡ unsupplied part c s }
 {
-    let p = c.pins;
-    vpp_low(part, p) | !(s.status / SR3 % 2 == 0)
+    vpp_low(part, c.pins) | (s.status / SR3 % 2 != 0)
 }
 
 // The counts after an operation starts at this cycle's address: an erase counts at its block.
@@ -75,44 +56,38 @@ fn wear_of(ph: Phase, part: Part, c: Cycle, w: Wear) -> Wear
     ensures { result ≡ wear_by ph part c w }
 {
     match ph {
-        Phase::Free => w,
-        Phase::EraseAwaited => w,
-        Phase::DataAwaited => w,
-        Phase::Programming(_) => w,
         Phase::Erasing => wear_out(w, device::block_of(part, c.address)),
-        Phase::Suspending(_) => w,
-        Phase::Suspended => w,
+        _ => w,
     }
 }
 
 // A confirm or data: the operation starts, or the error bits say why not.
+#[tactic(auto, unfolding(crate::specs::Performed::started_of))]
 fn begin(part: Part, c: Cycle, s: State, ph: Phase, time: u16, bit: u8) -> State
     ensures { result ≡ started_of part c s ph time bit }
 {
-    let m = s.mode;
     if unsupplied(part, c, s) {
-        return at_rest(s, m, s.status | SR3 | bit);
+        return at_rest(s, s.mode, s.status | SR3 | bit);
     }
     if locked(part, c) {
-        return at_rest(s, m, s.status | bit);
+        return at_rest(s, s.mode, s.status | bit);
     }
-    let w = s.wear;
     State {
-        mode: m,
         status: s.status & BUSY,
         phase: ph,
         left: time,
         address: c.address,
-        wear: wear_of(ph, part, c, w),
+        wear: wear_of(ph, part, c, s.wear),
+        ..s
     }
 }
 
 // Data: a program starts, or the error bits say why not.
+#[tactic(auto, unfolding(crate::specs::Performed::started_of))]
 fn send(part: Part, c: Cycle, s: State, time: u16) -> State
     ensures { result ≡ started_of part c s (Programming (data_of part c)) time SR4 }
 {
-    let v = data_of(part, c);
-    begin(part, c, s, Phase::Programming(v), time, SR4)
+    begin(part, c, s, Phase::Programming(data_of(part, c)), time, SR4)
 }
 
 // What an action makes of the state.
@@ -129,13 +104,9 @@ pub fn perform(a: Action, d: Device, c: Cycle, s: State) -> State
         Action::AwaitData => in_phase(Phase::DataAwaited, s.status, s),
         Action::Confirm => begin(part, c, s, Phase::Erasing, d.erase, SR5),
         Action::Store => send(part, c, s, d.program),
-        Action::WrongSecond => {
-            let m = s.mode;
-            at_rest(s, m, s.status | ERRORS)
-        }
+        Action::WrongSecond => at_rest(s, s.mode, s.status | ERRORS),
         Action::Suspend => in_phase(Phase::Suspending(d.suspend), s.status, s),
         Action::Resume => in_phase(Phase::Erasing, s.status & RESUMED, s),
-        Action::Ignore => s,
-        Action::Refuse => s,
+        Action::Ignore | Action::Refuse => s,
     }
 }

@@ -9,6 +9,7 @@ use device::Part;
 use model_types::{Action, Cycle, Phase};
 
 // The command of a cycle: the low 8 bits.
+#[tactic(auto, unfolding(crate::specs::Commands::command_of))]
 pub fn command_of(c: Cycle) -> u8
     ensures { result ≡ command_of c }
 {
@@ -16,79 +17,68 @@ pub fn command_of(c: Cycle) -> u8
 }
 
 // 40H, and 10H on the parts that know it.
+#[tactic(auto, unfolding(crate::specs::Commands::asks_program))]
 fn asks_program(part: Part, b: u8) -> bool
     ensures { result ≡ asks_program part b }
 {
     (b == 0x40) | (device::is_large(part) & (b == 0x10))
 }
 
+#[tactic(auto, unfolding(crate::specs::Commands::first_write))]
 fn first_write(part: Part, b: u8) -> Action
     ensures { result ≡ first_write part b }
 {
-    if b == 0xFF {
-        return Action::ToArray;
+    match b {
+        0xFF | 0xB0 => Action::ToArray,
+        0x90 => Action::ToIdentifier,
+        0x70 => Action::ToStatus,
+        0x50 => Action::Clear,
+        0x20 => Action::AwaitErase,
+        _ if asks_program(part, b) => Action::AwaitData,
+        _ => Action::Refuse,
     }
-    if b == 0xB0 {
-        return Action::ToArray;
-    }
-    if b == 0x90 {
-        return Action::ToIdentifier;
-    }
-    if b == 0x70 {
-        return Action::ToStatus;
-    }
-    if b == 0x50 {
-        return Action::Clear;
-    }
-    if b == 0x20 {
-        return Action::AwaitErase;
-    }
-    if asks_program(part, b) {
-        return Action::AwaitData;
-    }
-    Action::Refuse
 }
 
+#[tactic(auto, unfolding(crate::specs::Commands::after_erase))]
 fn after_erase(b: u8) -> Action
     ensures { result ≡ after_erase b }
 {
-    if b == 0xD0 {
-        return Action::Confirm;
+    match b {
+        0xD0 => Action::Confirm,
+        _ => Action::WrongSecond,
     }
-    Action::WrongSecond
 }
 
+#[tactic(auto, unfolding(crate::specs::Commands::while_erasing))]
 fn while_erasing(b: u8) -> Action
     ensures { result ≡ while_erasing b }
 {
-    if b == 0xB0 {
-        return Action::Suspend;
+    match b {
+        0xB0 => Action::Suspend,
+        _ => Action::Ignore,
     }
-    Action::Ignore
 }
 
+#[tactic(auto, unfolding(crate::specs::Commands::while_suspending))]
 fn while_suspending(b: u8) -> Action
     ensures { result ≡ while_suspending b }
 {
-    if b == 0x70 {
-        return Action::ToStatus;
+    match b {
+        0x70 => Action::ToStatus,
+        _ => Action::Ignore,
     }
-    Action::Ignore
 }
 
+#[tactic(auto, unfolding(crate::specs::Commands::while_suspended))]
 fn while_suspended(b: u8) -> Action
     ensures { result ≡ while_suspended b }
 {
-    if b == 0xFF {
-        return Action::ToArray;
+    match b {
+        0xFF => Action::ToArray,
+        0x70 => Action::ToStatus,
+        0xD0 => Action::Resume,
+        _ => Action::Ignore,
     }
-    if b == 0x70 {
-        return Action::ToStatus;
-    }
-    if b == 0xD0 {
-        return Action::Resume;
-    }
-    Action::Ignore
 }
 
 // The command rules, by what the device is about and the byte written.
@@ -110,19 +100,5 @@ pub fn action(part: Part, ph: Phase, b: u8) -> Action
 pub fn is_refuse(a: Action) -> bool
     ensures { result ≡ is_refuse a }
 {
-    match a {
-        Action::ToArray => false,
-        Action::ToIdentifier => false,
-        Action::ToStatus => false,
-        Action::Clear => false,
-        Action::AwaitErase => false,
-        Action::AwaitData => false,
-        Action::Confirm => false,
-        Action::Store => false,
-        Action::WrongSecond => false,
-        Action::Suspend => false,
-        Action::Resume => false,
-        Action::Ignore => false,
-        Action::Refuse => true,
-    }
+    matches!(a, Action::Refuse)
 }

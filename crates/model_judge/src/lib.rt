@@ -16,20 +16,15 @@ use model_types::{Cycle, Kind, Pins, State};
 fn is_idle(kind: Kind) -> bool
     ensures { result ≡ is_idle kind }
 {
-    match kind {
-        Kind::Read => false,
-        Kind::Write => false,
-        Kind::Idle => true,
-    }
+    matches!(kind, Kind::Idle)
 }
 
 // Refusal 5.
+#[tactic(auto, unfolding(crate::specs::Judging::past_array))]
 fn past_array(part: Part, c: Cycle) -> bool
     ensures { result ≡ past_array part c }
 {
-    let p = c.pins;
-    let kind = c.kind;
-    (device::size(part) <= c.address as usize) & !rp_low(p) & !is_idle(kind)
+    (device::size(part) <= c.address as usize) & !rp_low(c.pins) & !is_idle(c.kind)
 }
 
 // A cycle with such levels cuts what is running or suspended.
@@ -40,13 +35,12 @@ fn cuts(part: Part, p: Pins) -> bool
 }
 
 // Refusal 6.
+#[tactic(auto, unfolding(crate::specs::Judging::short_residue))]
 fn short_residue(part: Part, s: State, c: Cycle, residue: usize) -> bool
     ensures { result ≡ short_residue part s c residue }
 {
-    let p = c.pins;
-    let ph = s.phase;
-    if cuts(part, p) {
-        return residue < residue_for(ph, part, s.address);
+    if cuts(part, c.pins) {
+        return residue < residue_for(s.phase, part, s.address);
     }
     false
 }
@@ -54,10 +48,11 @@ fn short_residue(part: Part, s: State, c: Cycle, residue: usize) -> bool
 fn wrong_length(part: Part, array: usize) -> bool
     ensures { result ≡ not (eqb array (size_of part)) }
 {
-    !(array == device::size(part))
+    array != device::size(part)
 }
 
 // Refusals 1 to 6, the lowest that applies, or 0. The lengths are in units.
+#[tactic(auto, unfolding(crate::specs::Judging::judge_of))]
 pub fn judge(d: Device, s: State, c: Cycle, array: usize, residue: usize) -> u8
     ensures { result ≡ judge_of d s c array residue }
 {

@@ -16,6 +16,7 @@ pub fn rp_low(p: Pins) -> bool
 }
 
 // VPP is low.
+#[tactic(auto, unfolding(crate::specs::Levels::vpp_low))]
 pub fn vpp_low(part: Part, p: Pins) -> bool
     ensures { result ≡ vpp_low part p }
 {
@@ -25,12 +26,14 @@ pub fn vpp_low(part: Part, p: Pins) -> bool
     p.vpp <= 6500
 }
 
+#[tactic(auto, unfolding(crate::specs::Levels::at_twelve))]
 fn at_twelve(p: Pins) -> bool
     ensures { result ≡ at_twelve p }
 {
     (11400 <= p.vpp) & (p.vpp <= 12600)
 }
 
+#[tactic(auto, unfolding(crate::specs::Levels::at_five))]
 fn at_five(p: Pins) -> bool
     ensures { result ≡ at_five p }
 {
@@ -38,6 +41,7 @@ fn at_five(p: Pins) -> bool
 }
 
 // VPP is high.
+#[tactic(auto, unfolding(crate::specs::Levels::vpp_high))]
 pub fn vpp_high(part: Part, p: Pins) -> bool
     ensures { result ≡ vpp_high part p }
 {
@@ -48,16 +52,15 @@ pub fn vpp_high(part: Part, p: Pins) -> bool
 }
 
 // WP# is no level, on a part that has it.
+#[tactic(auto, unfolding(crate::specs::Levels::bad_wp))]
 fn bad_wp(part: Part, p: Pins) -> bool
     ensures { result ≡ bad_wp part p }
 {
-    if device::is_large(part) {
-        return 1 < p.wp;
-    }
-    false
+    device::is_large(part) & (1 < p.wp)
 }
 
 // A level of RP#, VPP or WP# that there is not.
+#[tactic(auto, unfolding(crate::specs::Levels::bad_pins))]
 pub fn bad_pins(part: Part, p: Pins) -> bool
     ensures { result ≡ bad_pins part p }
 {
@@ -65,6 +68,7 @@ pub fn bad_pins(part: Part, p: Pins) -> bool
 }
 
 // The highest level of OE# on a write.
+#[tactic(auto, unfolding(crate::specs::Levels::most_oe))]
 fn most_oe(part: Part) -> u8
     ensures { result ≡ most_oe part }
 {
@@ -78,22 +82,21 @@ fn bad_oe(part: Part, kind: Kind, oe: u8) -> bool
     ensures { result ≡ bad_oe part kind oe }
 {
     match kind {
-        Kind::Read => 0 < oe,
+        Kind::Read | Kind::Idle => 0 < oe,
         Kind::Write => most_oe(part) < oe,
-        Kind::Idle => 0 < oe,
     }
 }
 
 // Refusal 4.
+#[tactic(auto, unfolding(crate::specs::Levels::bad_levels))]
 pub fn bad_levels(part: Part, c: Cycle) -> bool
     ensures { result ≡ bad_levels part c }
 {
-    let p = c.pins;
-    let kind = c.kind;
-    bad_pins(part, p) | bad_oe(part, kind, c.oe)
+    bad_pins(part, c.pins) | bad_oe(part, c.kind, c.oe)
 }
 
 // RP# or OE# at V_HH unlocks the boot block; on devices 5 to 8 RP# at V_HH or WP# high.
+#[tactic(auto, unfolding(crate::specs::Levels::unlocked))]
 pub fn unlocked(part: Part, p: Pins, oe: u8) -> bool
     ensures { result ≡ unlocked part p oe }
 {
@@ -104,11 +107,11 @@ pub fn unlocked(part: Part, p: Pins, oe: u8) -> bool
 }
 
 // The address is in the boot block, and nothing unlocks it.
+#[tactic(auto, unfolding(crate::specs::Levels::locked))]
 pub fn locked(part: Part, c: Cycle) -> bool
     ensures { result ≡ locked part c }
 {
-    let p = c.pins;
-    if unlocked(part, p, c.oe) {
+    if unlocked(part, c.pins, c.oe) {
         return false;
     }
     device::block_of(part, c.address) == 0

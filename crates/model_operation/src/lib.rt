@@ -1,7 +1,7 @@
 // Steps 1 to 3 of a cycle: what becomes of an operation before the read or write.
 #![tactic(auto)]
 
-ghost use Rattle.std.specs.Prelude.{◌≡◌, ◌&&◌};
+ghost use Rattle.std.specs.Prelude.{◌≡◌};
 ghost use Rattle.model_operation.specs.Settling.{cut_of, finish_of, cut_bits, residue_for, reset_by, cut_by, counted_off, suspend_passed};
 ghost use Rattle.model_operation.specs.Settling.{passed_of, settle_of};
 
@@ -18,13 +18,11 @@ fn cut(ph: Phase, part: Part, address: u32) -> Effect
     ensures { result ≡ cut_of ph part address }
 {
     match ph {
-        Phase::Free => Effect::Nothing,
-        Phase::EraseAwaited => Effect::Nothing,
-        Phase::DataAwaited => Effect::Nothing,
+        Phase::Free | Phase::EraseAwaited | Phase::DataAwaited => Effect::Nothing,
         Phase::Programming(b) => Effect::CutProgram(address, b),
-        Phase::Erasing => Effect::CutErase(device::block_of(part, address)),
-        Phase::Suspending(_) => Effect::CutErase(device::block_of(part, address)),
-        Phase::Suspended => Effect::CutErase(device::block_of(part, address)),
+        Phase::Erasing | Phase::Suspending(_) | Phase::Suspended => {
+            Effect::CutErase(device::block_of(part, address))
+        }
     }
 }
 
@@ -33,13 +31,9 @@ fn end(ph: Phase, part: Part, address: u32) -> Effect
     ensures { result ≡ finish_of ph part address }
 {
     match ph {
-        Phase::Free => Effect::Nothing,
-        Phase::EraseAwaited => Effect::Nothing,
-        Phase::DataAwaited => Effect::Nothing,
         Phase::Programming(b) => Effect::Program(address, b),
         Phase::Erasing => Effect::Erase(device::block_of(part, address)),
-        Phase::Suspending(_) => Effect::Nothing,
-        Phase::Suspended => Effect::Nothing,
+        _ => Effect::Nothing,
     }
 }
 
@@ -54,13 +48,9 @@ fn cut_bits(ph: Phase) -> u8
     ensures { result ≡ cut_bits ph }
 {
     match ph {
-        Phase::Free => 0,
-        Phase::EraseAwaited => 0,
-        Phase::DataAwaited => 0,
+        Phase::Free | Phase::EraseAwaited | Phase::DataAwaited => 0,
         Phase::Programming(_) => CUT_PROGRAM,
-        Phase::Erasing => CUT_ERASE,
-        Phase::Suspending(_) => CUT_ERASE,
-        Phase::Suspended => CUT_ERASE,
+        Phase::Erasing | Phase::Suspending(_) | Phase::Suspended => CUT_ERASE,
     }
 }
 
@@ -69,56 +59,47 @@ pub fn residue_for(ph: Phase, part: Part, address: u32) -> usize
     ensures { result ≡ residue_for ph part address }
 {
     match ph {
-        Phase::Free => 0,
-        Phase::EraseAwaited => 0,
-        Phase::DataAwaited => 0,
+        Phase::Free | Phase::EraseAwaited | Phase::DataAwaited => 0,
         Phase::Programming(_) => 1,
-        Phase::Erasing => device::length(part, device::block_of(part, address)),
-        Phase::Suspending(_) => device::length(part, device::block_of(part, address)),
-        Phase::Suspended => device::length(part, device::block_of(part, address)),
+        Phase::Erasing | Phase::Suspending(_) | Phase::Suspended => {
+            device::length(part, device::block_of(part, address))
+        }
     }
 }
 
 fn reset_by(part: Part, s: State) -> Settled
     ensures { result ≡ reset_by part s }
 {
-    let ph = s.phase;
     Settled {
         state: reset(s),
-        effect: cut(ph, part, s.address),
+        effect: cut(s.phase, part, s.address),
     }
 }
 
+#[tactic(auto, unfolding(crate::specs::Settling::cut_by))]
 fn cut_by(part: Part, s: State) -> Settled
     ensures { result ≡ cut_by part s }
 {
-    let ph = s.phase;
     Settled {
-        state: at_rest(s, Mode::Status, s.status & UNSUSPENDED | cut_bits(ph)),
-        effect: cut(ph, part, s.address),
+        state: at_rest(s, Mode::Status, s.status & UNSUSPENDED | cut_bits(s.phase)),
+        effect: cut(s.phase, part, s.address),
     }
 }
 
+#[tactic(auto, unfolding(crate::specs::Settling::counted_off))]
 fn counted_off(part: Part, s: State) -> Settled
     ensures { result ≡ counted_off part s }
 {
-    let ph = s.phase;
-    let m = s.mode;
     if s.left <= 1 {
         return Settled {
-            state: at_rest(s, m, s.status | SR7),
-            effect: end(ph, part, s.address),
+            state: at_rest(s, s.mode, s.status | SR7),
+            effect: end(s.phase, part, s.address),
         };
     }
-    let w = s.wear;
     Settled {
         state: State {
-            mode: m,
-            status: s.status,
-            phase: ph,
             left: s.left - 1,
-            address: s.address,
-            wear: w,
+            ..s
         },
         effect: Effect::Nothing,
     }
@@ -128,11 +109,11 @@ fn counted_off(part: Part, s: State) -> Settled
 const HELD: u8 = SR7 + SR6;
 
 // One cycle of a suspend under way passes.
+#[tactic(auto, unfolding(crate::specs::Settling::suspend_passed))]
 fn suspend_passed(s: State) -> Settled
     ensures { result ≡ suspend_passed s }
 {
-    let ph = s.phase;
-    let n = suspend_left(ph);
+    let n = suspend_left(s.phase);
     if n <= 1 {
         return Settled {
             state: in_phase(Phase::Suspended, s.status | HELD, s),
@@ -146,34 +127,28 @@ fn suspend_passed(s: State) -> Settled
 }
 
 // One cycle of a busy device passes.
+#[tactic(auto, unfolding(crate::specs::Settling::passed_of))]
 fn passed(part: Part, s: State) -> Settled
     ensures { result ≡ passed_of part s }
 {
-    let ph = s.phase;
-    if is_suspending(ph) {
+    if is_suspending(s.phase) {
         return suspend_passed(s);
     }
     counted_off(part, s)
 }
 
-fn both(a: bool, b: bool) -> bool
-    ensures { result ≡ a && b }
-{
-    a & b
-}
-
 // The three steps in their order.
+#[tactic(auto, unfolding(crate::specs::Settling::settle_of))]
 pub fn settle(part: Part, s: State, p: Pins) -> Settled
     ensures { result ≡ settle_of part s p }
 {
-    let ph = s.phase;
     if rp_low(p) {
         return reset_by(part, s);
     }
-    if both(vpp_low(part, p), is_pending(ph)) {
+    if vpp_low(part, p) & is_pending(s.phase) {
         return cut_by(part, s);
     }
-    if is_busy(ph) {
+    if is_busy(s.phase) {
         return passed(part, s);
     }
     Settled {

@@ -20,39 +20,19 @@ use model_types::{Action, Cycle, Decision, Effect, Kind, Mode, Phase, Reply, Set
 fn is_read(kind: Kind) -> bool
     ensures { result ≡ is_read kind }
 {
-    match kind {
-        Kind::Read => true,
-        Kind::Write => false,
-        Kind::Idle => false,
-    }
+    matches!(kind, Kind::Read)
 }
 
 fn is_free(ph: Phase) -> bool
     ensures { result ≡ is_free ph }
 {
-    match ph {
-        Phase::Free => true,
-        Phase::EraseAwaited => false,
-        Phase::DataAwaited => false,
-        Phase::Programming(_) => false,
-        Phase::Erasing => false,
-        Phase::Suspending(_) => false,
-        Phase::Suspended => false,
-    }
+    matches!(ph, Phase::Free)
 }
 
 fn is_suspended(ph: Phase) -> bool
     ensures { result ≡ is_suspended ph }
 {
-    match ph {
-        Phase::Free => false,
-        Phase::EraseAwaited => false,
-        Phase::DataAwaited => false,
-        Phase::Programming(_) => false,
-        Phase::Erasing => false,
-        Phase::Suspending(_) => false,
-        Phase::Suspended => true,
-    }
+    matches!(ph, Phase::Suspended)
 }
 
 fn refused(n: u8, s: State) -> Decision
@@ -65,14 +45,15 @@ fn refused(n: u8, s: State) -> Decision
     }
 }
 
+#[tactic(auto, unfolding(crate::specs::Cycles::skips_last))]
 fn skips_last(part: Part) -> bool
     ensures { result ≡ skips_last part }
 {
-    let word = part.word;
-    device::is_large(part) & !word
+    device::is_large(part) & !part.word
 }
 
 // Which code an address asks for: more than 1 is none.
+#[tactic(auto, unfolding(crate::specs::Cycles::code_place))]
 pub fn code_place(part: Part, address: u32) -> u32
     ensures { result ≡ code_place part address }
 {
@@ -83,6 +64,7 @@ pub fn code_place(part: Part, address: u32) -> u32
 }
 
 // The code at an address: the maker's, or the part's own.
+#[tactic(auto, unfolding(crate::specs::Cycles::identifier_of))]
 pub fn identifier(part: Part, address: u32) -> u16
     ensures { result ≡ identifier_of part address }
 {
@@ -96,38 +78,37 @@ pub fn identifier(part: Part, address: u32) -> u16
 pub fn settled_by(reply: Reply, t: Settled) -> Decision
     ensures { result ≡ settled_by reply t }
 {
-    let s = t.state;
-    let effect = t.effect;
     Decision {
-        reply: reply,
-        state: s,
-        effect: effect,
+        reply,
+        state: t.state,
+        effect: t.effect,
     }
 }
 
 // The address is in the suspended block.
+#[tactic(auto, unfolding(crate::specs::Inner::in_suspended))]
 fn in_suspended(part: Part, s: State, address: u32) -> bool
     ensures { result ≡ in_suspended part s address }
 {
-    let ph = s.phase;
-    if is_suspended(ph) {
+    if is_suspended(s.phase) {
         return device::block_of(part, address) == device::block_of(part, s.address);
     }
     false
 }
 
 // An array read: 8, or the byte.
+#[tactic(auto, unfolding(crate::specs::Inner::decide_array))]
 fn read_array(part: Part, s: State, c: Cycle, t: Settled) -> Decision
     ensures { result ≡ decide_array part s c t }
 {
-    let after = t.state;
-    if in_suspended(part, after, c.address) {
+    if in_suspended(part, t.state, c.address) {
         return refused(8, s);
     }
     settled_by(Reply::GivesArray(c.address), t)
 }
 
 // An identifier read: 9, or the code.
+#[tactic(auto, unfolding(crate::specs::Inner::decide_identifier))]
 fn read_identifier(part: Part, s: State, c: Cycle, t: Settled) -> Decision
     ensures { result ≡ decide_identifier part s c t }
 {
@@ -156,18 +137,18 @@ pub fn read(m: Mode, part: Part, s: State, c: Cycle, t: Settled) -> Decision
 }
 
 // A write, by the action that it asks for: 7, or what comes of it.
+#[tactic(auto, unfolding(crate::specs::Inner::decide_write))]
 pub fn write(a: Action, d: Device, s: State, c: Cycle, t: Settled) -> Decision
     ensures { result ≡ decide_write a d s c t }
 {
     let after = t.state;
-    let effect = t.effect;
     if is_refuse(a) {
         return refused(7, s);
     }
     Decision {
         reply: Reply::Quiet,
         state: perform(a, d, c, after),
-        effect: effect,
+        effect: t.effect,
     }
 }
 
@@ -175,43 +156,32 @@ pub fn write(a: Action, d: Device, s: State, c: Cycle, t: Settled) -> Decision
 fn respond(kind: Kind, d: Device, s: State, c: Cycle, t: Settled) -> Decision
     ensures { result ≡ decide_kind kind d s c t }
 {
-    let after = t.state;
     match kind {
-        Kind::Read => {
-            let m = after.mode;
-            let part = d.part;
-            read(m, part, s, c, t)
-        }
+        Kind::Read => read(t.state.mode, d.part, s, c, t),
         Kind::Write => {
-            let ph = after.phase;
-            let part = d.part;
-            write(action(part, ph, command_of(c)), d, s, c, t)
+            let a = action(d.part, t.state.phase, command_of(c));
+            write(a, d, s, c, t)
         }
         Kind::Idle => settled_by(Reply::Quiet, t),
     }
 }
 
 // Only for callers that know refusals 1 to 6 not to apply. With RP# low the cycle ends after step 1.
+#[tactic(auto, unfolding(crate::specs::Inner::decide_judged))]
 pub fn decide_judged(d: Device, s: State, c: Cycle) -> Decision
     ensures { result ≡ decide_judged d s c }
 {
-    let part = d.part;
-    let p = c.pins;
-    let kind = c.kind;
-    let t = settle(part, s, p);
-    if rp_low(p) {
+    let t = settle(d.part, s, c.pins);
+    if rp_low(c.pins) {
         return settled_by(Reply::Quiet, t);
     }
-    respond(kind, d, s, c, t)
+    respond(c.kind, d, s, c, t)
 }
 
 // An array read of a device at rest with RP# up: the commonest cycle, told from all others at small cost.
+#[tactic(auto, unfolding(crate::specs::Inner::asks_array))]
 pub fn asks_array(s: State, c: Cycle) -> bool
     ensures { result ≡ asks_array s c }
 {
-    let ph = s.phase;
-    let m = s.mode;
-    let kind = c.kind;
-    let p = c.pins;
-    is_read(kind) & is_free(ph) & is_array(m) & !rp_low(p)
+    is_read(c.kind) & is_free(s.phase) & is_array(s.mode) & !rp_low(c.pins)
 }

@@ -30,30 +30,17 @@ pub const SR3: u8 = 0x08;
 pub fn is_busy(ph: Phase) -> bool
     ensures { result ≡ is_busy ph }
 {
-    match ph {
-        Phase::Free => false,
-        Phase::EraseAwaited => false,
-        Phase::DataAwaited => false,
-        Phase::Programming(_) => true,
-        Phase::Erasing => true,
-        Phase::Suspending(_) => true,
-        Phase::Suspended => false,
-    }
+    matches!(
+        ph,
+        Phase::Programming(_) | Phase::Erasing | Phase::Suspending(_)
+    )
 }
 
 // A suspend is under way: the erase stands still.
 pub fn is_suspending(ph: Phase) -> bool
     ensures { result ≡ is_suspending ph }
 {
-    match ph {
-        Phase::Free => false,
-        Phase::EraseAwaited => false,
-        Phase::DataAwaited => false,
-        Phase::Programming(_) => false,
-        Phase::Erasing => false,
-        Phase::Suspending(_left) => true,
-        Phase::Suspended => false,
-    }
+    matches!(ph, Phase::Suspending(_))
 }
 
 // The cycles that a suspend under way has to go.
@@ -61,13 +48,8 @@ pub fn suspend_left(ph: Phase) -> u8
     ensures { result ≡ suspend_left ph }
 {
     match ph {
-        Phase::Free => 0,
-        Phase::EraseAwaited => 0,
-        Phase::DataAwaited => 0,
-        Phase::Programming(_) => 0,
-        Phase::Erasing => 0,
         Phase::Suspending(n) => n,
-        Phase::Suspended => 0,
+        _ => 0,
     }
 }
 
@@ -75,27 +57,15 @@ pub fn suspend_left(ph: Phase) -> u8
 pub fn is_pending(ph: Phase) -> bool
     ensures { result ≡ is_pending ph }
 {
-    match ph {
-        Phase::Free => false,
-        Phase::EraseAwaited => false,
-        Phase::DataAwaited => false,
-        Phase::Programming(_) => true,
-        Phase::Erasing => true,
-        Phase::Suspending(_held) => true,
-        Phase::Suspended => true,
-    }
+    is_busy(ph) | matches!(ph, Phase::Suspended)
 }
 
 fn top_bits(ph: Phase) -> u8
     ensures { result ≡ top_bits ph }
 {
     match ph {
-        Phase::Free => 2,
-        Phase::EraseAwaited => 2,
-        Phase::DataAwaited => 2,
-        Phase::Programming(_) => 0,
-        Phase::Erasing => 0,
-        Phase::Suspending(_) => 0,
+        Phase::Free | Phase::EraseAwaited | Phase::DataAwaited => 2,
+        Phase::Programming(_) | Phase::Erasing | Phase::Suspending(_) => 0,
         Phase::Suspended => 3,
     }
 }
@@ -104,13 +74,9 @@ fn most_left(d: Device, ph: Phase) -> u16
     ensures { result ≡ most_left d ph }
 {
     match ph {
-        Phase::Free => 0,
-        Phase::EraseAwaited => 0,
-        Phase::DataAwaited => 0,
+        Phase::Free | Phase::EraseAwaited | Phase::DataAwaited => 0,
         Phase::Programming(_) => d.program,
-        Phase::Erasing => d.erase,
-        Phase::Suspending(_) => d.erase,
-        Phase::Suspended => d.erase,
+        Phase::Erasing | Phase::Suspending(_) | Phase::Suspended => d.erase,
     }
 }
 
@@ -118,32 +84,20 @@ fn most_left(d: Device, ph: Phase) -> u16
 pub fn is_array(m: Mode) -> bool
     ensures { result ≡ is_array m }
 {
-    match m {
-        Mode::Array => true,
-        Mode::Status => false,
-        Mode::Identifier => false,
-    }
+    matches!(m, Mode::Array)
 }
 
 fn is_status(m: Mode) -> bool
     ensures { result ≡ is_status m }
 {
-    match m {
-        Mode::Array => false,
-        Mode::Status => true,
-        Mode::Identifier => false,
-    }
+    matches!(m, Mode::Status)
 }
 
 // The mode is identifier.
 pub fn is_identifier(m: Mode) -> bool
     ensures { result ≡ is_identifier m }
 {
-    match m {
-        Mode::Array => false,
-        Mode::Status => false,
-        Mode::Identifier => true,
-    }
+    matches!(m, Mode::Identifier)
 }
 
 fn bad_mode(ph: Phase, m: Mode) -> bool
@@ -151,78 +105,68 @@ fn bad_mode(ph: Phase, m: Mode) -> bool
 {
     match ph {
         Phase::Free => false,
-        Phase::EraseAwaited => !is_status(m),
-        Phase::DataAwaited => !is_status(m),
-        Phase::Programming(_) => !is_status(m),
-        Phase::Erasing => !is_status(m),
-        Phase::Suspending(_) => !is_status(m),
         Phase::Suspended => is_identifier(m),
+        _ => !is_status(m),
     }
 }
 
+#[tactic(auto, unfolding(crate::specs::Inner::bad_status))]
 fn bad_status(ph: Phase, status: u8) -> bool
     ensures { result ≡ bad_status ph status }
 {
-    !(status % SR3 == 0) | !(status / SR6 == top_bits(ph))
+    (status % SR3 != 0) | (status / SR6 != top_bits(ph))
 }
 
 fn bad_suspend(d: Device, ph: Phase) -> bool
     ensures { result ≡ bad_suspend d ph }
 {
     match ph {
-        Phase::Free => false,
-        Phase::EraseAwaited => false,
-        Phase::DataAwaited => false,
-        Phase::Programming(_) => false,
-        Phase::Erasing => false,
         Phase::Suspending(n) => (n == 0) | (d.suspend < n),
-        Phase::Suspended => false,
+        _ => false,
     }
 }
 
+#[tactic(auto, unfolding(crate::specs::Inner::bad_left))]
 fn bad_left(d: Device, ph: Phase, left: u16) -> bool
     ensures { result ≡ bad_left d ph left }
 {
     if is_pending(ph) {
         return (left == 0) | (most_left(d, ph) < left) | bad_suspend(d, ph);
     }
-    !(left == 0)
+    left != 0
 }
 
+#[tactic(auto, unfolding(crate::specs::Inner::bad_address))]
 fn bad_address(d: Device, ph: Phase, address: u32) -> bool
     ensures { result ≡ bad_address d ph address }
 {
-    let part = d.part;
     if is_pending(ph) {
-        return device::size(part) <= address as usize;
+        return device::size(d.part) <= address as usize;
     }
-    !(address == 0)
+    address != 0
 }
 
 // Refusal 3.
 pub fn improper(d: Device, s: State) -> bool
     ensures { result ≡ improper d s }
 {
-    let ph = s.phase;
-    let m = s.mode;
-    bad_mode(ph, m)
-        | bad_status(ph, s.status)
-        | bad_left(d, ph, s.left)
-        | bad_address(d, ph, s.address)
+    bad_mode(s.phase, s.mode)
+        | bad_status(s.phase, s.status)
+        | bad_left(d, s.phase, s.left)
+        | bad_address(d, s.phase, s.address)
 }
 
 // A state come to rest: nothing awaited, running or suspended; the counts of erases stay.
 pub fn at_rest(s: State, m: Mode, status: u8) -> State
     ensures { result ≡ is_at_rest s m status }
 {
-    let w = s.wear;
     State {
         mode: m,
-        status: status,
+        status,
         phase: Phase::Free,
         left: 0,
         address: 0,
-        wear: w,
+        ..s
     }
 }
 
@@ -230,14 +174,11 @@ pub fn at_rest(s: State, m: Mode, status: u8) -> State
 pub fn in_phase(ph: Phase, status: u8, s: State) -> State
     ensures { result ≡ in_phase ph status s }
 {
-    let w = s.wear;
     State {
         mode: Mode::Status,
-        status: status,
+        status,
         phase: ph,
-        left: s.left,
-        address: s.address,
-        wear: w,
+        ..s
     }
 }
 
@@ -259,13 +200,5 @@ pub fn fresh() -> State
 pub fn reset(s: State) -> State
     ensures { result ≡ reset_of s }
 {
-    let kept = s.wear;
-    State {
-        mode: Mode::Array,
-        status: SR7,
-        phase: Phase::Free,
-        left: 0,
-        address: 0,
-        wear: kept,
-    }
+    at_rest(s, Mode::Array, SR7)
 }

@@ -1,17 +1,13 @@
 -- Each way out of a reading, and of a reading from a file.
-use mathlib.Core.Path.{◌≡◌, refl, sym, ap, ◌∙◌}
+use mathlib.Core.Path.{◌≡◌, refl}
 use mathlib.Core.Bool.{Bool, true, false}
 use mathlib.Core.List.{List}
 use Prim.Native.Nat.{ℕ, ◌+◌, ◌-◌, ◌≤◌, ◌<◌}
 use native.Mathlib.Omega.{arith}
-use lib.ListN.{length, take, drop, length-append}
-use lib.Seq.{take_at}
 use lib.IntN.{ℤ}
 use lib.Signed.{lt_z}
 use lib.Ieee.{binary64, of_int}
 use Rattle.common.specs.Numbers.{given}
-use Rattle.file_codec.specs.declared.ReadBack.TheVariants.{Gave, Refused as ReadRefused}
-use Rattle.file_codec.specs.File.{Outcome, refused, made, left_in, read_as}
 use Rattle.reading_pair.specs.Pairs.{interpolated}
 use Rattle.reading_table.specs.Table.{volts_of, knots, rises_to, shape_wrong, table_number}
 use Rattle.reading_table.specs.Search.{seek_of}
@@ -21,7 +17,7 @@ use Rattle.reading_table.proofs.Knots.{Rising}
 use Rattle.reading_table.proofs.Judged.{shape_right, judged_says, judged_rises}
 use Rattle.reading.specs.declared.Reading.TheVariants.{Temperature, Below, Above}
 use Rattle.reading.specs.declared.ReadingAnswer.TheVariants.{Read, Refused}
-use Rattle.reading.specs.Readings.{heat_of, pair_at, reading_of, ends_wrong, pair_wrong, reading_rows, reading_number, reading_answer, table_answer, answer_as}
+use Rattle.reading.specs.Readings.{heat_of, pair_at, reading_of, ends_wrong, pair_wrong, reading_rows, reading_number, reading_answer}
 
 module _ (p : List ℕ) (x : ℤ) where
   abbrev Under : Bool
@@ -97,24 +93,3 @@ module _ (p : List ℕ) (x : ℤ) where
       go true h b k = simp (says.0, ends, h)
       go false h true k = simp (says.0, ends, h, k)
       go false h false k = simp (says.0, ends, h, k, judged_rises p says.1 (seek_of p x) (seek_of p x + 1) (omega arith) (next_knot h k two))
-
--- a file that the reader refuses
-pub refused_answer : (o : Outcome) (n : ℕ) (x : ℤ) → read_as o ≡ ReadRefused n → Refused n ≡ answer_as x o
-refused_answer (refused m) n x e = let q : m ≡ n = cc in ap Refused (sym q)
-refused_answer (made p) n x e = absurd (let z : ◌≡◌ {A = ℕ} 0 1 = cc in omega arith)
-
--- a file that it gives back: what it left at the front of the room is the payload
-pub made_fits : (room : List ℕ) (o : Outcome) (k : ℕ) (left : List ℕ) → read_as o ≡ Gave k → left ≡ left_in room o → k ≤ length left
-made_fits room (refused m) k left e l = absurd (let z : ◌≡◌ {A = ℕ} 0 1 = cc in omega arith)
-made_fits room (made p) k left e l =
-    let q : length p ≡ k = cc in
-    let n : length left ≡ length p + length (drop (length p) room) = ap length l ∙ length-append p (drop (length p) room) in
-    omega arith
-
-pub made_answer : (room : List ℕ) (o : Outcome) (k : ℕ) (left : List ℕ) (x : ℤ) → read_as o ≡ Gave k → left ≡ left_in room o
-    → table_answer (take (k - 0) (drop 0 left)) x ≡ answer_as x o
-made_answer room (refused m) k left x e l = absurd (let z : ◌≡◌ {A = ℕ} 0 1 = cc in omega arith)
-made_answer room (made p) k left x e l =
-    let q : length p ≡ k = cc in
-    let n : k - 0 ≡ length p = omega arith in
-    ap (λ (z : ℕ). table_answer (take z left) x) n ∙ ap (λ (z : List ℕ). table_answer (take (length p) z) x) l ∙ ap (λ (z : List ℕ). table_answer z x) (take_at p (drop (length p) room) (length p) refl)

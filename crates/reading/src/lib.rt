@@ -11,7 +11,6 @@ ghost use Rattle.reading.specs.Readings.{heat_of, pair_at, reading_of, reading_n
 ghost use Rattle.reading.specs.Readings.{answer_told};
 ghost use Rattle.reading.specs.Readings.{told_at, told_as};
 
-use file_codec::ReadBack;
 use reading_pair::Pair;
 
 // A temperature in tenths of a degree; or the voltage is below or above the table, with the end knot's temperature.
@@ -133,9 +132,8 @@ pub fn reading_from_file(file: &[u8], letter: u8, room: &mut [u8], x: i32) -> Re
     ensures room_left { room.new
         ≡ left_in room.old (in_room (length room.old) (reader_of limit file.now letter)) }
 {
-    let got = file_codec::read(file, letter, room);
-    match got {
-        ReadBack::Refused(n) => ReadingAnswer::Refused(n),
-        ReadBack::Gave(size) => judged_reading(&room[0..size], x),
+    match file_codec::read(file, letter, room) {
+        Ok(size) => judged_reading(&room[0..size], x),
+        Err(refusal) => ReadingAnswer::Refused(refusal.number()),
     }
 }

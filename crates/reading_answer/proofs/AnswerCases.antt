@@ -10,7 +10,7 @@ use Rattle.text.proofs.Laying.{laid_first, laid_more}
 use Rattle.reading.specs.declared.Reading.{Reading}
 use Rattle.reading.specs.declared.Reading.TheVariants.{Temperature}
 use Rattle.common.proofs.Choice.{if_true, if_false}
-use Rattle.reading_text.specs.declared.NumberRead.{NumberRead}
+use Rattle.std.specs.Prelude.{ℤ, Option}
 use Rattle.reading_text.specs.Numbers.{number_told}
 use Rattle.reading_answer.specs.Lines.{call_wrong, misused, read_by, answered, degrees, reading_line}
 
@@ -19,10 +19,10 @@ module _ (count : ℕ) (file letter volts room : List ℕ) where
   unfolding answered
   answered_wrong e = sym (if_true (call_wrong count letter) (misused room) (read_by (number_told volts) file (get_or letter 0 0) room) e)
 
-  pub answered_right : (n : NumberRead) → call_wrong count letter ≡ false → number_told volts ≡ n → read_by n file (get_or letter 0 0) room ≡ answered count file letter volts room
+  pub answered_right : (n : Option ℤ) → call_wrong count letter ≡ false → number_told volts ≡ n → read_by n file (get_or letter 0 0) room ≡ answered count file letter volts room
   unfolding answered
   answered_right n e f =
-      sym (if_false (call_wrong count letter) (misused room) (read_by (number_told volts) file (get_or letter 0 0) room) e ∙ ap (λ (z : NumberRead). read_by z file (get_or letter 0 0) room) f)
+      sym (if_false (call_wrong count letter) (misused room) (read_by (number_told volts) file (get_or letter 0 0) room) e ∙ ap (λ (z : Option ℤ). read_by z file (get_or letter 0 0) room) f)
 
 -- a reading laid: a temperature alone, and one behind words
 pub alone_laid : (out o : List ℕ) (n : ℕ) (r : Reading) (t : Float) → r ≡ Temperature t → n ≡ behind out 0 (degrees t) → o ≡ laid_at out 0 (degrees t)

@@ -1,5 +1,5 @@
 -- The line that a reading prints.
-use Rattle.std.specs.Prelude.{Bool, not, ◌||◌, List, ◌++◌, ℕ, eqb, Float, length, get_or, if◌then◌else◌}
+use Rattle.std.specs.Prelude.{Bool, not, ◌||◌, List, ◌++◌, ℕ, eqb, ℤ, Float, Option, Some, None, length, get_or, if◌then◌else◌}
 use Rattle.text.specs.Writing.{bytes}
 use Rattle.refusal_words.specs.Words.{file_words, refused_text}
 use Rattle.file_codec.specs.File.{limit, in_room, left_in, reader_of}
@@ -9,8 +9,6 @@ use Rattle.reading.specs.declared.Reading.TheVariants.{Temperature, Below, Above
 use Rattle.reading.specs.declared.ReadingAnswer.{ReadingAnswer}
 use Rattle.reading.specs.declared.ReadingAnswer.TheVariants.{Read, Refused}
 use Rattle.reading.specs.Readings.{answer_as}
-use Rattle.reading_text.specs.declared.NumberRead.{NumberRead}
-use Rattle.reading_text.specs.declared.NumberRead.TheVariants.{Whole, NoNumber}
 use Rattle.reading_text.specs.Numbers.{number_told}
 
 -- what a refusal means: the file's length, the room, the table, or another of the file
@@ -60,14 +58,14 @@ unfoldable pub call_wrong : ℕ → List ℕ → Bool
 call_wrong count letter = not (eqb count 5) || not (eqb (length letter) 1)
 
 -- the microvolts are a number, or they are none
-abbrev pub read_by : NumberRead → List ℕ → ℕ → List ℕ → Answered
-read_by (Whole x) file letter room =
+abbrev pub read_by : Option ℤ → List ℕ → ℕ → List ℕ → Answered
+read_by (Some x) file letter room =
     record {
       line = answer_line (answer_as x (in_room (length room) (reader_of limit file letter)));
       stream = 1;
       room = left_in room (in_room (length room) (reader_of limit file letter));
     }
-read_by NoNumber file letter room = misused room
+read_by None file letter room = misused room
 
 -- the whole: words of a call, so many with the program's own; file, letter, microvolts; and the room lent
 unfoldable pub answered : ℕ → List ℕ → List ℕ → List ℕ → List ℕ → Answered

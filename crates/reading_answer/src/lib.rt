@@ -8,7 +8,6 @@ ghost use Rattle.reading.specs.Readings.{answer_as};
 ghost use Rattle.reading_answer.specs.Lines.{read_words, refused_line, degrees, reading_line, answer_line, usage, call_wrong, answered};
 
 use reading::{Reading, ReadingAnswer};
-use reading_text::NumberRead;
 use text::Told;
 
 // What a refusal means, from a place on; the place behind it.
@@ -142,16 +141,15 @@ pub fn answer(
             stream: 2,
         };
     }
-    let number = reading_text::read_number(volts);
-    match number {
-        NumberRead::Whole(x) => {
+    match reading_text::read_number(volts) {
+        Some(x) => {
             let used = put_read(out, file, common::nth(letter, 0), room, x);
             Told {
                 used: used,
                 stream: 1,
             }
         }
-        NumberRead::NoNumber => {
+        None => {
             let used = put_usage(out);
             Told {
                 used: used,

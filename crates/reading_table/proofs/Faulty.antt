@@ -1,32 +1,36 @@
 -- The first knot that is not good, round by round.
-use mathlib.Core.Path.{◌≡◌, refl, sym, ap, ◌∙◌, subst}
+use mathlib.Core.Path.{◌≡◌, refl, sym, ◌∙◌, subst}
 use mathlib.Core.Bool.{Bool, true, false}
 use mathlib.Core.List.{List}
-use Prim.Native.Nat.{ℕ, zero, suc, ◌+◌, ◌-◌, ◌≤◌, ◌<◌}
+use mathlib.Core.Logic.{⊎_elim}
+use native.Mathlib.Nat.{eq-or-lt_of_le}
+use Rattle.std.specs.Prelude.{Option, None, Some, MatchOption, unwrap_or}
+use Prim.Native.Nat.{ℕ, zero, suc, ◌+◌, ◌≤◌, ◌<◌}
 use native.Mathlib.Omega.{arith}
 use Rattle.std.specs.Prelude.{if◌then◌else◌}
 use Rattle.common.proofs.Choice.{if_true, if_false}
 use Rattle.reading_table.specs.Table.{good_at, knots}
 use Rattle.reading_table.specs.Faults.{fault_from, fault_of}
 
-module _ (p : List ℕ) (n i : ℕ) where
-  one_more : i < n → fault_from (n - i) i p ≡ (if good_at p i then fault_from (n - (i + 1)) (i + 1) p else i)
-  unfolding fault_from
-  one_more h = let e : n - i ≡ suc (n - (i + 1)) = omega (arith, h) in ap (λ (k : ℕ). fault_from k i p) e
+-- the knots from i up to j are good, and j is not, or is behind the last of the k
+reach : (p : List ℕ) (k i j : ℕ) → i ≤ j → j ≤ i + k → ((m : ℕ) → i ≤ m → m < j → good_at p m ≡ true) → (j < i + k → good_at p j ≡ false) → fault_from k i p ≡ j
+unfolding fault_from
+reach p zero i j l h good bad = omega arith
+reach p (suc k) i j l h good bad =
+    ⊎_elim
+    (λ (e : i ≡ j). if_false (good_at p i) (fault_from k (i + 1) p) i (subst (λ (m : ℕ). good_at p m ≡ false) (sym e) (bad (omega (arith, e)))) ∙ e)
+    (λ (m : i < j).
+    if_true (good_at p i) (fault_from k (i + 1) p) i (good i (omega arith) m)
+    ∙ reach p k (i + 1) j (omega (arith, m)) (omega (arith, h)) (λ q a b. good q (omega (arith, a)) b) (λ a. bad (omega (arith, a))))
+    (eq-or-lt_of_le l)
 
-  pub fault_on : i < n → good_at p i ≡ true → fault_from (n - i) i p ≡ fault_of p → fault_from (n - (i + 1)) (i + 1) p ≡ fault_of p
-  fault_on h g e = sym (one_more h ∙ if_true (good_at p i) (fault_from (n - (i + 1)) (i + 1) p) i g) ∙ e
-
-  pub fault_stop : i < n → good_at p i ≡ false → fault_from (n - i) i p ≡ fault_of p → i ≡ fault_of p
-  fault_stop h g e = sym (one_more h ∙ if_false (good_at p i) (fault_from (n - (i + 1)) (i + 1) p) i g) ∙ e
-
-  pub fault_end : n ≤ i → fault_from (n - i) i p ≡ fault_of p → i ≡ fault_of p
-  unfolding fault_from
-  fault_end h e = let z : n - i ≡ 0 = omega (arith, h) in sym (ap (λ (k : ℕ). fault_from k i p) z) ∙ e
-
-pub fault_start : (p : List ℕ) → fault_from (knots p - 0) 0 p ≡ fault_of p
+-- for code: what a search through all knots finds
+pub fault_found : (p : List ℕ) (r : Option ℕ)
+    → MatchOption r ((k : ℕ) → 0 ≤ k → k < knots p → good_at p k ≡ true) (λ i. (0 ≤ i) × (i < knots p) × (good_at p i ≡ false) × ((k : ℕ) → 0 ≤ k → k < i → good_at p k ≡ true))
+    → unwrap_or r (knots p) ≡ fault_of p
 unfolding fault_of
-fault_start p = let e : knots p - 0 ≡ knots p = omega arith in ap (λ (k : ℕ). fault_from k 0 p) e
+fault_found p None h = sym (reach p (knots p) 0 (knots p) (omega arith) (omega arith) h (λ l. absurd (omega (arith, l))))
+fault_found p (Some i) h = sym (reach p (knots p) 0 i (omega arith) (omega (arith, h.1)) h.3 (λ l. h.2))
 
 -- it lies among the knots, or behind the last
 from_most : (k i : ℕ) (p : List ℕ) → fault_from k i p ≤ i + k

@@ -1,6 +1,5 @@
 pub mod Faulty
 pub mod Places
-pub mod Signs
 pub mod Order
 pub mod Steps
 pub mod Seeking

@@ -8,62 +8,13 @@ ghost use Rattle.reading_table.specs.Table.{rising_of, shape_wrong, table_number
 ghost use Rattle.reading_table.specs.Faults.{fault_of};
 ghost use Rattle.reading_table.specs.Search.{seek_of};
 
-// 32 bits as a signed number.
-fn signed_of_32(u: u32) -> i32
-    ensures { result ≡ signed32 u }
-{
-    if u < 2147483648 {
-        return u as i32;
-    }
-    let d = 4294967295 - u;
-    -1 - d as i32
-}
-
-// 16 bits as a signed number.
-fn signed_of_16(u: u16) -> i16
-    ensures { result ≡ signed16 u }
-{
-    if u < 32768 {
-        return u as i16;
-    }
-    let d = 65535 - u;
-    -1 - d as i16
-}
-
-// The order of two signed numbers.
-fn below(a: i32, b: i32) -> bool
-    ensures { result ≡ lt_z a b }
-{
-    a < b
-}
-
-fn at_most(a: i32, b: i32) -> bool
-    ensures { result ≡ le_z a b }
-{
-    a <= b
-}
-
-// Bytes as one number, high byte first.
-fn word_of_32(a: u8, b: u8, c: u8, d: u8) -> u32
-    ensures { result ≡ word32 a b c d }
-{
-    ((a as u32 * 256 + b as u32) * 256 + c as u32) * 256 + d as u32
-}
-
-fn word_of_16(a: u8, b: u8) -> u16
-    ensures { result ≡ word16 a b }
-{
-    a as u16 * 256 + b as u16
-}
-
 // The microvolts of a knot of the payload.
 fn volts_at(s: &[u8], i: usize) -> i32
     requires { i < length s.now / 6 }
     ensures { result ≡ volts_of s.now i }
 {
     let at = 6 * i;
-    let w = word_of_32(s[at], s[at + 1], s[at + 2], s[at + 3]);
-    signed_of_32(w)
+    i32::from_be_bytes([s[at], s[at + 1], s[at + 2], s[at + 3]])
 }
 
 // The tenths of a degree of a knot of the payload.
@@ -72,8 +23,7 @@ fn tenths_at(s: &[u8], i: usize) -> i16
     ensures { result ≡ tenths_of s.now i }
 {
     let at = 6 * i;
-    let w = word_of_16(s[at + 4], s[at + 5]);
-    signed_of_16(w)
+    i16::from_be_bytes([s[at + 4], s[at + 5]])
 }
 
 // The same for any i: 0 past the last knot.
@@ -100,9 +50,7 @@ pub fn tenths(s: &[u8], i: usize) -> i16
 fn in_range(v: i32) -> bool
     ensures { result ≡ in_range v }
 {
-    let a = at_most(-10000, v);
-    let b = at_most(v, 80000);
-    a & b
+    (-10000..=80000).contains(&v)
 }
 
 // A knot's microvolts are in range.
@@ -110,8 +58,7 @@ fn in_range_at(s: &[u8], i: usize) -> bool
     requires { i < length s.now / 6 }
     ensures { result ≡ in_range (volts_of s.now i) }
 {
-    let v = volts_at(s, i);
-    in_range(v)
+    in_range(volts_at(s, i))
 }
 
 // A knot's microvolts are above those of the knot before.
@@ -119,9 +66,7 @@ fn climbs_at(s: &[u8], i: usize) -> bool
     requires { (1 ≤ i) × (i < length s.now / 6) }
     ensures { result ≡ lt_z (volts_of s.now (i - 1)) (volts_of s.now i) }
 {
-    let u = volts_at(s, i - 1);
-    let v = volts_at(s, i);
-    below(u, v)
+    volts_at(s, i - 1) < volts_at(s, i)
 }
 
 // A knot's microvolts are in range, and above those of the knot before.
@@ -129,12 +74,7 @@ fn good_at(s: &[u8], i: usize) -> bool
     requires { i < length s.now / 6 }
     ensures { result ≡ good_at s.now i }
 {
-    let a = in_range_at(s, i);
-    if i == 0 {
-        return a;
-    }
-    let b = climbs_at(s, i);
-    a & b
+    in_range_at(s, i) && (i == 0 || climbs_at(s, i))
 }
 
 // The microvolts of two knots are in range, and those of the second are above those of the first. For any i and j, as they are read.
@@ -143,10 +83,7 @@ pub fn rises_to(s: &[u8], i: usize, j: usize) -> bool
 {
     let u = volts(s, i);
     let v = volts(s, j);
-    let a = in_range(u);
-    let b = in_range(v);
-    let c = below(u, v);
-    a & (b & c)
+    in_range(u) && in_range(v) && u < v
 }
 
 // Every knot is good: the first and the last are in range, and each is above the one before, so that all are in range.
@@ -154,25 +91,7 @@ fn rising(s: &[u8]) -> bool
     ensures { result ≡ rising_of s.now }
 {
     let n = s.len() / 6;
-    if n == 0 {
-        return true;
-    }
-    if !in_range_at(s, 0) {
-        return false;
-    }
-    if !in_range_at(s, n - 1) {
-        return false;
-    }
-    let mut i = 1;
-    while i < n {
-        let g = climbs_at(s, i);
-        if g {
-            i += 1;
-        } else {
-            return false;
-        }
-    }
-    true
+    n == 0 || in_range_at(s, 0) && in_range_at(s, n - 1) && (1..n).all(|i| climbs_at(s, i))
 }
 
 // 40: the payload is no whole number of knots, or has fewer than two.
@@ -183,14 +102,6 @@ pub fn shape_wrong(s: &[u8]) -> bool
     (n % 6 != 0) | (n / 6 < 2)
 }
 
-// 41: some knot's microvolts are out of range or do not rise.
-fn not_rising(s: &[u8]) -> bool
-    ensures { result ≡ not (rising_of s.now) }
-{
-    let r = rising(s);
-    !r
-}
-
 // The judgement of a payload as a table: 40, then 41, or 0.
 pub fn judge_table(payload: &[u8]) -> u8
     ensures { result ≡ table_number payload.now }
@@ -198,7 +109,7 @@ pub fn judge_table(payload: &[u8]) -> u8
     if shape_wrong(payload) {
         return 40;
     }
-    if not_rising(payload) {
+    if !rising(payload) {
         return 41;
     }
     0
@@ -217,8 +128,7 @@ pub fn seek(s: &[u8], x: i32) -> usize
     while lo + 1 < hi {
         let mid = lo + (hi - lo) / 2;
         let v = volts_at(s, mid);
-        let low = at_most(v, x);
-        if low {
+        if v <= x {
             lo = mid;
         } else {
             hi = mid;
@@ -232,14 +142,5 @@ pub fn first_fault(s: &[u8]) -> usize
     ensures { result ≡ fault_of s.now }
 {
     let n = s.len() / 6;
-    let mut i = 0;
-    while i < n {
-        let g = good_at(s, i);
-        if g {
-            i += 1;
-        } else {
-            return i;
-        }
-    }
-    i
+    (0..n).find(|&i| !good_at(s, i)).unwrap_or(n)
 }

@@ -5,28 +5,25 @@ use mathlib.Core.List.{List, [], ◌∷◌, append-nil, ◌++◌}
 use Prim.Native.Nat.{ℕ, ◌+◌, ◌-◌, ◌*◌, ◌/◌, ◌%◌, ◌≤◌, ◌<◌}
 use native.Mathlib.Omega.{arith}
 use native.Mathlib.Numerals.{add-one}
-use lib.Dec.{leb, ltb, eqb}
-use lib.IntN.{pos, negsuc}
+use lib.Dec.{leb, eqb}
 use lib.ListN.{length, get_or, take, drop, drop_of_length-le}
 use lib.Seq.{drop-cons}
-use borrow.Author.Tests.{leb-false, ltb-true}
+use borrow.Author.Tests.{leb-false}
 use borrow.Rule.Slice.PartMut.{put_mid}
+use Rattle.std.specs.List.{fold}
 use Rattle.std.specs.Prelude.{if◌then◌else◌}
 use Rattle.common.specs.Lists.{overlaid}
-use Rattle.common.proofs.Choice.{if_ind, if_true, if_false, or_right, and_right}
+use Rattle.common.proofs.Choice.{if_ind, if_true, if_false, or_right}
 use Rattle.reading_text.specs.declared.Number.{Number}
-use Rattle.reading_text.specs.declared.NumberRead.TheVariants.{Whole, NoNumber}
 use Rattle.reading_text.specs.declared.Scan.{Scan}
 use Rattle.text.specs.Digits.{is_digit}
-use Rattle.reading_text.specs.Numbers.{fed_digit, fed_minus, fed_other, fed, fed_all, number_start, number_fed, is_number, is_negative, value_of, number_told}
+use Rattle.reading_text.specs.Numbers.{fed_digit, fed_minus, fed_other, fed, fed_all, number_start, number_fed, is_number}
 use Rattle.reading_text.specs.Tables.{Scanned, line_wrong, fits_tenths, gap_wrong, stopped_scan, next_number, next_line, next_letter, at_gap, within_line, end_line, with_knot, scan_more, scan_all, six_of}
 
 -- numbers
-pub fed_next : (n : Number) (bs : List ℕ) (i : ℕ) → i < length bs → fed_all n (drop i bs) ≡ fed_all (fed n (get_or bs i 0)) (drop (i + 1) bs)
-fed_next n bs i h = rw (add-one i, drop-cons bs i 0 h) refl
-
-pub fed_end : (n : Number) (bs : List ℕ) (i : ℕ) → length bs ≤ i → fed_all n (drop i bs) ≡ n
-fed_end n bs i h = rw (drop_of_length-le bs {i = i} h) refl
+pub fed_fold : (n : Number) (bs : List ℕ) → fold fed n bs ≡ fed_all n bs
+fed_fold n [] = refl
+fed_fold n (b ∷ bs) = fed_fold (fed n b) bs
 
 -- a number stays small
 abbrev Small : Number → Type 0
@@ -122,24 +119,3 @@ pub put_knot_over : (xs ys : List ℕ) (k v t v' t' : ℕ) → ys ≡ six_of v t
 put_knot_over xs ys k v t v' t' e a b =
     let l : length ys ≡ 6 * k + 6 - 6 * k = ap length e ∙ (let q : 6 ≡ 6 * k + 6 - 6 * k = omega arith in q) in
     put_over xs ys (6 * k) (6 * k + 6 - 6 * k) l ∙ ap (overlaid xs (6 * k)) (e ∙ ap₂ six_of a b)
-
--- the value of a number
-pub negative_some : (n : Number) → is_negative n ≡ true → 0 < n.size
-negative_some n e = ltb-true 0 n.size (and_right n.minus (ltb 0 n.size) e)
-
-pub value_negative : (n : Number) → is_negative n ≡ true → value_of n ≡ negsuc (n.size - 1)
-unfolding value_of
-value_negative n e = if_true (is_negative n) (negsuc (n.size - 1)) (pos n.size) e
-
-pub value_plain : (n : Number) → is_negative n ≡ false → value_of n ≡ pos n.size
-unfolding value_of
-value_plain n e = if_false (is_negative n) (negsuc (n.size - 1)) (pos n.size) e
-
--- a number of a text
-pub read_whole : (bs : List ℕ) → is_number (number_fed bs) ≡ true → number_told bs ≡ Whole (value_of (number_fed bs))
-unfolding number_told
-read_whole bs e = if_true (is_number (number_fed bs)) (Whole (value_of (number_fed bs))) NoNumber e
-
-pub read_none : (bs : List ℕ) → is_number (number_fed bs) ≡ false → number_told bs ≡ NoNumber
-unfolding number_told
-read_none bs e = if_false (is_number (number_fed bs)) (Whole (value_of (number_fed bs))) NoNumber e

@@ -1,10 +1,8 @@
 -- A number as text: a minus or none, then digits.
 use Rattle.std.specs.Prelude.{Bool, true, false, not, ◌&&◌, ◌||◌, List, [], ◌∷◌, ℕ, ◌+◌, ◌-◌, ◌*◌, eqb, leb, ltb, ℤ, pos, negsuc}
-use Rattle.std.specs.Prelude.{if◌then◌else◌}
+use Rattle.std.specs.Prelude.{Option, Some, None, if◌then◌else◌}
 use Rattle.text.specs.Digits.{is_digit, digit_of}
 use Rattle.reading_text.specs.declared.Number.{Number}
-use Rattle.reading_text.specs.declared.NumberRead.{NumberRead}
-use Rattle.reading_text.specs.declared.NumberRead.TheVariants.{Whole, NoNumber}
 
 -- no letter yet
 abbrev pub number_start : Number
@@ -50,14 +48,14 @@ unfoldable pub value_of : Number → ℤ
 value_of n = if is_negative n then negsuc (n.size - 1) else pos n.size
 
 -- an answer by its cases: the value told, none where the text is no number
-abbrev pub number_values : NumberRead → List ℤ
-number_values (Whole v) = v ∷ []
-number_values NoNumber = []
+abbrev pub number_values : Option ℤ → List ℤ
+number_values (Some v) = v ∷ []
+number_values None = []
 
 -- the values that a text tells
 unfoldable pub values_in : List ℕ → List ℤ
 values_in bs = if is_number (number_fed bs) then value_of (number_fed bs) ∷ [] else []
 
 -- what a text says of a number
-unfoldable pub number_told : List ℕ → NumberRead
-number_told bs = if is_number (number_fed bs) then Whole (value_of (number_fed bs)) else NoNumber
+unfoldable pub number_told : List ℕ → Option ℤ
+number_told bs = if is_number (number_fed bs) then Some (value_of (number_fed bs)) else None

@@ -1,10 +1,10 @@
 -- A table as text: a line for each knot, its microvolts, a space, its tenths of a degree, a newline.
 use Rattle.std.specs.Prelude.{Bool, true, false, not, ◌||◌, List, [], ◌∷◌, ℕ, ◌+◌, ◌-◌, ◌*◌, ◌/◌, ◌%◌, eqb, leb, length, if◌then◌else◌}
+use Rattle.std.specs.Prelude.{Result, Ok, Err}
 use Rattle.common.specs.Lists.{overlaid}
 use Rattle.reading_text.specs.declared.Number.{Number}
 use Rattle.reading_text.specs.declared.Scan.{Scan}
-use Rattle.reading_text.specs.declared.TableRead.{TableRead}
-use Rattle.reading_text.specs.declared.TableRead.TheVariants.{Knots, WrongLine}
+use Rattle.reading_text.specs.declared.WrongLine.{WrongLine}
 use Rattle.reading_text.specs.Numbers.{number_start, fed, is_number}
 
 -- a number's bits, of as many as there are below top
@@ -93,14 +93,17 @@ unfoldable pub is_begun : Scan → Bool
 is_begun s = ((s.second || s.number.minus) || s.number.some) || s.number.none
 
 -- an answer by its cases: the number of the first wrong line, 0 where none is wrong, and the knots told
-abbrev pub table_told : TableRead → ℕ × List ℕ
-table_told (Knots n) = (0, n ∷ [])
-table_told (WrongLine line) = (line, [])
+abbrev pub table_told : Result ℕ WrongLine → ℕ × List ℕ
+table_told (Ok n) = (0, n ∷ [])
+table_told (Err e) = (e.line, [])
 
 -- what a scan that came to the end of its text tells: the line, from 1, that is wrong or was begun and not ended; or the knots
 unfoldable pub scan_told : Scan → ℕ × List ℕ
 scan_told s = if s.wrong || is_begun s then (s.knots + 1, []) else (0, s.knots ∷ [])
 
 -- what a text says of a table: its knots, or the first line that is none, counted from 1
-unfoldable pub table_read : Scan → TableRead
-table_read s = if s.wrong then WrongLine (s.knots + 1) else if is_begun s then WrongLine (s.knots + 1) else Knots s.knots
+unfoldable pub table_read : Scan → Result ℕ WrongLine
+table_read s =
+    if s.wrong then Err (record { line = s.knots + 1 })
+    else if is_begun s then Err (record { line = s.knots + 1 })
+    else Ok s.knots

@@ -2,7 +2,7 @@
 #![tactic(auto)]
 
 ghost use Rattle.std.specs.Prelude.{◌≡◌, ◌+◌, ◌*◌, ◌/◌, ◌<◌, length};
-ghost use Rattle.reading_text.specs.Numbers.{number_start, fed_digit, fed_minus, fed_other, fed, number_fed, is_number, is_negative};
+ghost use Rattle.reading_text.specs.Numbers.{number_start, fed_digit, fed_minus, fed_other, fed, number_fed, is_number};
 ghost use Rattle.reading_text.specs.Numbers.{value_of, number_told, number_values, values_in};
 ghost use Rattle.reading_text.specs.Tables.{bits_of, six_of, with_knot, fits_tenths, line_wrong, gap_wrong, scan_start, stopped_scan};
 ghost use Rattle.reading_text.specs.Tables.{next_number, next_line, next_letter, at_gap, within_line, end_line, scan_more, is_begun};
@@ -17,33 +17,22 @@ pub struct Number {
     pub size: u32,
 }
 
-// What a text says of a number.
-#[derive(Clone, Copy)]
-pub enum NumberRead {
-    Whole(i32),
-    NoNumber,
-}
-
 // One digit more: nine digits at most count.
 fn feed_digit(n: Number, b: u8) -> Number
     ensures { result ≡ fed_digit n b }
 {
-    let minus = n.minus;
-    let none = n.none;
     if 100000000 <= n.size {
         return Number {
-            minus: minus,
             some: true,
             none: true,
             size: 0,
+            ..n
         };
     }
-    let d = (b % 16) as u32;
     Number {
-        minus: minus,
         some: true,
-        none: none,
-        size: 10 * n.size + d,
+        size: 10 * n.size + u32::from(text::digit(b)),
+        ..n
     }
 }
 
@@ -51,14 +40,10 @@ fn feed_digit(n: Number, b: u8) -> Number
 fn feed_minus(n: Number) -> Number
     ensures { result ≡ fed_minus n }
 {
-    let minus = n.minus;
-    let some = n.some;
-    let none = n.none;
     Number {
         minus: true,
-        some: some,
-        none: none | minus | some,
-        size: n.size,
+        none: n.none || n.minus || n.some,
+        ..n
     }
 }
 
@@ -66,14 +51,7 @@ fn feed_minus(n: Number) -> Number
 fn feed_other(n: Number) -> Number
     ensures { result ≡ fed_other n }
 {
-    let minus = n.minus;
-    let some = n.some;
-    Number {
-        minus: minus,
-        some: some,
-        none: true,
-        size: n.size,
-    }
+    Number { none: true, ..n }
 }
 
 // One letter more of a number.
@@ -93,9 +71,7 @@ fn feed(n: Number, b: u8) -> Number
 fn is_number(n: Number) -> bool
     ensures { result ≡ is_number n }
 {
-    let some = n.some;
-    let none = n.none;
-    some & !none
+    n.some && !n.none
 }
 
 // No letter yet.
@@ -114,22 +90,7 @@ fn number_start() -> Number
 fn number_fed(text: &[u8]) -> Number
     ensures { result ≡ number_fed text.now }
 {
-    let mut n = number_start();
-    let mut i = 0;
-    while i < text.len() {
-        n = feed(n, text[i]);
-        i += 1;
-    }
-    n
-}
-
-// Below zero: -0 is not.
-fn is_negative(n: Number) -> bool
-    ensures { result ≡ is_negative n }
-{
-    let minus = n.minus;
-    let some = 0 < n.size;
-    minus & some
+    text.iter().fold(number_start(), |n, b| feed(n, *b))
 }
 
 // The value of a number of at most nine digits.
@@ -137,23 +98,17 @@ fn value(n: Number) -> i32
     requires { n.size < 2147483648 }
     ensures { result ≡ value_of n }
 {
-    if is_negative(n) {
-        let d = n.size - 1;
-        return -1 - d as i32;
-    }
-    n.size as i32
+    let size = n.size as i32;
+    if n.minus { -size } else { size }
 }
 
 // A whole text as a number: a minus or none, then digits, the nine last of which may be other than 0.
-pub fn read_number(text: &[u8]) -> NumberRead
+pub fn read_number(text: &[u8]) -> Option<i32>
     ensures result { result ≡ number_told text.now }
     ensures told { number_values result ≡ values_in text.now }
 {
     let n = number_fed(text);
-    if is_number(n) {
-        return NumberRead::Whole(value(n));
-    }
-    NumberRead::NoNumber
+    if is_number(n) { Some(value(n)) } else { None }
 }
 
 // A table as far as it is read: the number that is being read, the microvolts of the line once they are, the knots so far, and
@@ -167,11 +122,10 @@ pub struct Scan {
     pub knots: usize,
 }
 
-// What a text says of a table: its knots, or the first line that is none, counted from 1.
-#[derive(Clone, Copy)]
-pub enum TableRead {
-    Knots(usize),
-    WrongLine(usize),
+// The first line of a text that is no knot of a table, counted from 1.
+#[derive(Clone, Copy, PartialEq, Eq, Debug)]
+pub struct WrongLine {
+    pub line: usize,
 }
 
 // The bits of a number, of so many as there are below top.
@@ -179,12 +133,8 @@ fn bits(n: Number, top: usize) -> usize
     requires { 0 < top }
     ensures { result ≡ bits_of n top }
 {
-    let minus = n.minus;
     let low = n.size as usize % top;
-    if minus {
-        return (top - low) % top;
-    }
-    low
+    if n.minus { (top - low) % top } else { low }
 }
 
 // Six bytes become a knot.
@@ -220,33 +170,21 @@ fn put_knot(out: &mut [u8], k: usize, volts: Number, tenths: Number)
 fn fits_tenths(n: Number) -> bool
     ensures { result ≡ fits_tenths n }
 {
-    let minus = n.minus;
-    if minus {
-        return n.size <= 32768;
-    }
-    n.size <= 32767
+    n.size <= if n.minus { 32768 } else { 32767 }
 }
 
 // At the end of a line: no second number, one that is none or too large, or no room for another knot.
 fn line_wrong(s: Scan, room: usize) -> bool
     ensures { result ≡ line_wrong s room }
 {
-    let n = s.number;
-    let second = s.second;
-    let whole = is_number(n);
-    let fits = fits_tenths(n);
-    let full = room / 6 <= s.knots;
-    !second | !whole | !fits | full
+    !s.second || !is_number(s.number) || !fits_tenths(s.number) || room / 6 <= s.knots
 }
 
 // At a space: the second number already, or a first that is none.
 fn gap_wrong(s: Scan) -> bool
     ensures { result ≡ gap_wrong s }
 {
-    let n = s.number;
-    let second = s.second;
-    let whole = is_number(n);
-    second | !whole
+    s.second || !is_number(s.number)
 }
 
 // The scan at its start, stopped, at the second number, at the next line, and at the next letter of a number.
@@ -265,29 +203,17 @@ fn scan_start() -> Scan
 fn stopped(s: Scan) -> Scan
     ensures { result ≡ stopped_scan s }
 {
-    let number = s.number;
-    let volts = s.volts;
-    let second = s.second;
-    Scan {
-        number: number,
-        volts: volts,
-        second: second,
-        wrong: true,
-        knots: s.knots,
-    }
+    Scan { wrong: true, ..s }
 }
 
 fn next_number(s: Scan) -> Scan
     ensures { result ≡ next_number s }
 {
-    let volts = s.number;
-    let wrong = s.wrong;
     Scan {
         number: number_start(),
-        volts: volts,
+        volts: s.number,
         second: true,
-        wrong: wrong,
-        knots: s.knots,
+        ..s
     }
 }
 
@@ -295,29 +221,21 @@ fn next_line(s: Scan) -> Scan
     requires { s.knots < 4611686018427387904 }
     ensures { result ≡ next_line s }
 {
-    let wrong = s.wrong;
     Scan {
         number: number_start(),
         volts: number_start(),
         second: false,
-        wrong: wrong,
         knots: s.knots + 1,
+        ..s
     }
 }
 
 fn next_letter(s: Scan, b: u8) -> Scan
     ensures { result ≡ next_letter s b }
 {
-    let number = s.number;
-    let volts = s.volts;
-    let second = s.second;
-    let wrong = s.wrong;
     Scan {
-        number: feed(number, b),
-        volts: volts,
-        second: second,
-        wrong: wrong,
-        knots: s.knots,
+        number: feed(s.number, b),
+        ..s
     }
 }
 
@@ -349,9 +267,7 @@ fn end_line(s: Scan, out: &mut [u8]) -> Scan
     if line_wrong(s, out.len()) {
         return stopped(s);
     }
-    let volts = s.volts;
-    let tenths = s.number;
-    put_knot(out, s.knots, volts, tenths);
+    put_knot(out, s.knots, s.volts, s.number);
     next_line(s)
 }
 
@@ -360,8 +276,7 @@ fn step(s: Scan, b: u8, out: &mut [u8]) -> Scan
     ensures result { result ≡ (scan_more s b out.old).scan }
     ensures out_left { out.new ≡ (scan_more s b out.old).payload }
 {
-    let wrong = s.wrong;
-    if wrong {
+    if s.wrong {
         return s;
     }
     if b == b'\n' {
@@ -375,39 +290,29 @@ fn is_begun(s: Scan) -> bool
     ensures { result ≡ is_begun s }
 {
     let n = s.number;
-    let second = s.second;
-    let minus = n.minus;
-    let some = n.some;
-    let none = n.none;
-    second | minus | some | none
+    s.second || n.minus || n.some || n.none
 }
 
-// What a scan that came to the end of its text says.
-fn table_end(s: Scan) -> TableRead
+// What a scan that came to the end of its text says: its knots, or the first line that is none.
+fn table_end(s: Scan) -> Result<usize, WrongLine>
     requires { s.knots < 4611686018427387904 }
     ensures { result ≡ table_read s }
 {
-    let wrong = s.wrong;
-    if wrong {
-        return TableRead::WrongLine(s.knots + 1);
+    if s.wrong || is_begun(s) {
+        return Err(WrongLine { line: s.knots + 1 });
     }
-    if is_begun(s) {
-        return TableRead::WrongLine(s.knots + 1);
-    }
-    TableRead::Knots(s.knots)
+    Ok(s.knots)
 }
 
 // A whole table into the front of out, six bytes for a knot.
-pub fn read_table(text: &[u8], out: &mut [u8]) -> TableRead
+pub fn read_table(text: &[u8], out: &mut [u8]) -> Result<usize, WrongLine>
     ensures result { result ≡ table_read (table_scanned text.now out.old).scan }
     ensures told { table_told result ≡ scan_told (table_scanned text.now out.old).scan }
     ensures out_left { out.new ≡ (table_scanned text.now out.old).payload }
 {
     let mut s = scan_start();
-    let mut i = 0;
-    while i < text.len() {
-        s = step(s, text[i], out);
-        i += 1;
+    for b in text {
+        s = step(s, *b, out);
     }
     table_end(s)
 }

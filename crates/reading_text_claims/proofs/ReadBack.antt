@@ -14,7 +14,7 @@ use Rattle.common.proofs.Choice.{if_false}
 use Rattle.common.proofs.Pieces.{overwritten_piece}
 use Rattle.reading_table.specs.Table.{knots, volts_of, tenths_of}
 use Rattle.reading_table.proofs.Knots.{tenths_size}
-use Rattle.reading_text.specs.declared.TableRead.TheVariants.{Knots}
+use Rattle.std.specs.Prelude.{Ok}
 use Rattle.reading_text.specs.Tables.{Scanned, six_of, bits_of, with_knot, scan_all, table_scanned, is_begun, table_read}
 use Rattle.reading_text.proofs.Walks.{put_over}
 use Rattle.reading_claims.specs.Tables.{Table}
@@ -69,6 +69,6 @@ module _ (p out : List ℕ) (bytes : Bytes p) (t : Table p) (room : length p ≤
   scanned = all_lines (knots p) 0 (omega arith) ∙ ap (at_line (knots p)) whole
 
   -- every line is a knot, and the knots are the payload
-  pub read_back : (table_read (table_scanned (table_text p) out).scan ≡ Knots (knots p)) × ((table_scanned (table_text p) out).payload ≡ p ++ drop (length p) out)
+  pub read_back : (table_read (table_scanned (table_text p) out).scan ≡ Ok (knots p)) × ((table_scanned (table_text p) out).payload ≡ p ++ drop (length p) out)
   unfolding table_read is_begun
   read_back = (ap (λ (q : Scanned). table_read q.scan) scanned, ap (λ (q : Scanned). q.payload) scanned)

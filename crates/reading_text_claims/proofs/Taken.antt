@@ -15,8 +15,8 @@ use Rattle.common.proofs.Bytes.{overlaid_length}
 use Rattle.text.specs.Digits.{is_digit, digit_of}
 use Rattle.reading_text.specs.declared.Number.{Number}
 use Rattle.reading_text.specs.declared.Scan.{Scan}
-use Rattle.reading_text.specs.declared.TableRead.{TableRead}
-use Rattle.reading_text.specs.declared.TableRead.TheVariants.{Knots, WrongLine}
+use Rattle.reading_text.specs.declared.WrongLine.{WrongLine}
+use Rattle.std.specs.Prelude.{Result, Ok, Err}
 use Rattle.reading_text.specs.Numbers.{number_start, fed_digit, fed_minus, fed_other, fed, fed_all, number_fed, is_number}
 use Rattle.reading_text.specs.Tables.{Scanned, bits_of, six_of, with_knot, fits_tenths, line_wrong, gap_wrong, stopped_scan, next_number, at_gap, within_line, scan_more, scan_all, table_scanned, is_begun, table_read}
 use Rattle.reading_text.proofs.Walks.{line_room, end_wrong, end_right, step_wrong, step_line, step_within}
@@ -29,15 +29,15 @@ abbrev at_line : ℕ → List ℕ → Scanned
 at_line k out = at_number number_start number_start false k out
 
 abbrev Reads : List ℕ → Scanned → ℕ → Type 0
-Reads text q n = table_read (scan_all text q).scan ≡ Knots n
+Reads text q n = table_read (scan_all text q).scan ≡ Ok n
 
-abbrev is_knots : TableRead → Bool
-is_knots (Knots n) = true
-is_knots (WrongLine n) = false
+abbrev is_knots : Result ℕ WrongLine → Bool
+is_knots (Ok n) = true
+is_knots (Err e) = false
 
-abbrev knots_told : TableRead → ℕ
-knots_told (Knots n) = n
-knots_told (WrongLine n) = n
+abbrev knots_told : Result ℕ WrongLine → ℕ
+knots_told (Ok n) = n
+knots_told (Err e) = e.line
 
 -- a knot leaves the payload as long as it was
 knot_length : (out : List ℕ) (k : ℕ) (v t : Number) → length (with_knot out k v t) ≡ length out
@@ -123,7 +123,7 @@ never : (text : List ℕ) (s : Scan) (out : List ℕ) (n : ℕ) → s.wrong ≡ 
 unfolding table_read
 never text s out n e r =
     let w = ap (λ (q : Scanned). table_read q.scan) (wrong_stays text s out e)
-    ∙ if_true s.wrong (WrongLine (s.knots + 1)) (if is_begun s then WrongLine (s.knots + 1) else Knots s.knots) e in
+    ∙ if_true s.wrong (Err (record { line = s.knots + 1 })) (if is_begun s then Err (record { line = s.knots + 1 }) else Ok s.knots) e in
     unlike (sym (ap is_knots r) ∙ ap is_knots w)
 
 -- a letter makes a line begun
@@ -247,11 +247,11 @@ read_form [] n true v u w k out f l e = absurd (unlike (sym (ap is_knots e)))
 read_form [] n false v [] w k out f l e = let q = ap knots_told e in (subst (λ (z : ℕ). TableForm [] k z) q (done k), subst (λ (z : ℕ). z ≤ length out / 6) q l)
 read_form [] n false v (x ∷ u) w k out f l e =
     let N = fed_all (fed number_start x) u in
-    let h = if_true ((N.minus || N.some) || N.none) (WrongLine (k + 1)) (Knots k) (all_begun u (fed number_start x) (fed_begun number_start x)) in
+    let h = if_true ((N.minus || N.some) || N.none) (Err (record { line = k + 1 })) (Ok k) (all_begun u (fed number_start x) (fed_begun number_start x)) in
     absurd (unlike (sym (ap is_knots e) ∙ ap is_knots h))
 read_form (b ∷ bs) n second v u w k out f l e = letter_case b bs second v u w k n out f l (read_form bs n) (eqb b 10) (eqb b 32) refl refl e
 
 -- exactly the texts of the form, with room for their knots
-pub taken_exactly : (text out : List ℕ) (n : ℕ) → (table_read (table_scanned text out).scan ≡ Knots n) ↔ (TableForm text 0 n × (n ≤ length out / 6))
+pub taken_exactly : (text out : List ℕ) (n : ℕ) → (table_read (table_scanned text out).scan ≡ Ok n) ↔ (TableForm text 0 n × (n ≤ length out / 6))
 unfolding table_scanned number_fed
 taken_exactly text out n = (λ e. read_form text n false [] [] number_start 0 out (λ z. absurd (unlike (sym z))) (omega arith) e, λ p. form_read text 0 n out p.0 p.1)

@@ -1,5 +1,5 @@
 -- Recordings: one record judged in a world, without a list. The world is the device's state and the lent bytes.
-use Rattle.std.specs.Prelude.{Bool, true, false, not, ◌&&◌, ◌||◌, List, [], ℕ, length, eqb, ltb, if◌then◌else◌}
+use Rattle.std.specs.Prelude.{Bool, true, false, not, ◌&&◌, ◌||◌, List, [], ℕ, length, eqb, ltb, if◌then◌else◌, Option, Some, None}
 use Rattle.units.specs.Units.{lent, lent_in}
 use Rattle.device.specs.declared.Part.{Part}
 use Rattle.device.specs.declared.Device.{Device}
@@ -15,8 +15,6 @@ use Rattle.model.specs.declared.Seen.TheVariants.{NoData, Data, Refused}
 use Rattle.model.specs.declared.Answer.{Answer}
 use Rattle.model.specs.Arrays.{answer_of, bytes_after}
 use Rattle.model.specs.Begun.{starts_of}
-use Rattle.recording.specs.declared.Heard.{Heard}
-use Rattle.recording.specs.declared.Heard.TheVariants.{Silence, Told}
 use Rattle.recording.specs.declared.Noted.{Noted}
 use Rattle.recording.specs.declared.Recorded.{Recorded}
 use Rattle.recording.specs.declared.Why.{Why}
@@ -67,11 +65,11 @@ abbrev pub device_for : Device → State → Noted → Device
 device_for d s r = timed d (time_of d.part s r)
 
 -- the answer given is the one seen, bit by bit; a refusal is no answer (R-recording-2)
-abbrev pub agrees : Seen → Heard → Bool
-agrees NoData Silence = true
-agrees NoData (Told w) = false
-agrees (Data v) Silence = false
-agrees (Data v) (Told w) = eqb v w
+abbrev pub agrees : Seen → Option ℕ → Bool
+agrees NoData None = true
+agrees NoData (Some w) = false
+agrees (Data v) None = false
+agrees (Data v) (Some w) = eqb v w
 agrees (Refused m) h = false
 
 -- the rules' answer to a record's cycle, with no residue: none is needed where nothing is cut

@@ -6,7 +6,6 @@ ghost use Rattle.std.specs.Prelude.{◌≡◌, true, false, ◌&&◌, []};
 ghost use Rattle.units.specs.Units.{units, spare};
 ghost use Rattle.model_types.specs.Kinds.{is_write};
 ghost use Rattle.model_actions.specs.Performed.{unsupplied};
-ghost use Rattle.model.specs.declared.Seen.TheVariants.{NoData, Data};
 ghost use Rattle.model.specs.Inner.{done_of};
 ghost use Rattle.recording.specs.Recordings.{starts, outside, wrong_count, cuts_off, count_of, time_of, timed, device_for, agrees, faulty};
 ghost use Rattle.recording.specs.Recordings.{recorded_of, bytes_recorded, why_seen, why_of};
@@ -18,18 +17,11 @@ use model_levels::{locked, rp_low, vpp_low};
 use model_states::{SR3, is_pending};
 use model_types::{Cycle, Decision, Kind, Phase, State};
 
-// The answer that was seen: none, or data of up to 16 bits.
-#[derive(Clone, Copy)]
-pub enum Heard {
-    Silence,
-    Told(u16),
-}
-
-// A record: the cycle, the answer seen, and the busy count, wider than any that is allowed.
+// A record: the cycle, the answer seen (none, or data of up to 16 bits), and the busy count, wider than any that is allowed.
 #[derive(Clone, Copy)]
 pub struct Noted {
     pub cycle: Cycle,
-    pub heard: Heard,
+    pub heard: Option<u16>,
     pub busy: u32,
 }
 
@@ -54,11 +46,7 @@ const LONGEST: u16 = 65535;
 fn is_write(kind: Kind) -> bool
     ensures { result ≡ is_write kind }
 {
-    match kind {
-        Kind::Read => false,
-        Kind::Write => true,
-        Kind::Idle => false,
-    }
+    matches!(kind, Kind::Write)
 }
 
 // VPP is low at this cycle, or SR.3 is still set.
@@ -187,31 +175,13 @@ fn device_for(d: Device, s: State, r: Noted) -> Device
     timed(d, time_of(part, s, r))
 }
 
-fn is_told(heard: Heard, v: u16) -> bool
-    ensures { result ≡ agrees (Data v) heard }
-{
-    match heard {
-        Heard::Silence => false,
-        Heard::Told(w) => v == w,
-    }
-}
-
-fn is_silence(heard: Heard) -> bool
-    ensures { result ≡ agrees NoData heard }
-{
-    match heard {
-        Heard::Silence => true,
-        Heard::Told(_) => false,
-    }
-}
-
 // The answer given is the one seen; a refusal is none.
-fn agrees(seen: Seen, heard: Heard) -> bool
+fn agrees(seen: Seen, heard: Option<u16>) -> bool
     ensures { result ≡ agrees seen heard }
 {
     match seen {
-        Seen::NoData => is_silence(heard),
-        Seen::Data(v) => is_told(heard, v),
+        Seen::NoData => heard.is_none(),
+        Seen::Data(v) => heard == Some(v),
         Seen::Refused(_) => false,
     }
 }

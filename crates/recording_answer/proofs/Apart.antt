@@ -1,42 +1,48 @@
 -- Where two lists first differ, from a place on.
-use mathlib.Core.Path.{◌≡◌, refl, ap, ap₂, ◌∙◌}
-use mathlib.Core.Bool.{Bool, true, false}
+use mathlib.Core.Path.{◌≡◌, refl}
+use mathlib.Core.Bool.{Bool, true, false, not, cond}
 use mathlib.Core.List.{List, [], ◌∷◌}
-use Prim.Native.Nat.{ℕ, suc, ◌+◌, ◌≤◌, ◌<◌, min}
-use native.Mathlib.Numerals.{add-one}
+use Prim.Native.Nat.{ℕ, suc, ◌≤◌, ◌<◌, min}
 use native.Mathlib.Omega.{arith}
-use lib.Dec.{eqb, leb}
-use lib.ListN.{length, get_or, drop, drop_of_length-le}
-use lib.Seq.{drop-cons}
-use borrow.Author.Tests.{eq-eqb, ne_eqb, eqb-false, leb-true, leb-false}
-use Rattle.std.specs.Prelude.{if◌then◌else◌}
+use lib.Dec.{eqb, ltb}
+use lib.ListN.{length, get_or}
+use borrow.Author.Tests.{eqb-false, ltb-false}
+use Rattle.std.specs.List.{position_or_len, zip}
+use Rattle.std.specs.Option.{unwrap_or}
+use Rattle.std.specs.Prelude.{if◌then◌else◌, Option, Some, None}
+use Rattle.std.proofs.lemmas.Slice.Zip.{length-zip}
 use Rattle.recording_answer.specs.Lines.{first_apart}
 
-module _ (xs ys : List ℕ) (i : ℕ) (l : i < length xs) (m : i < length ys) where
-  front : first_apart (drop i xs) (drop i ys) ≡ (if eqb (get_or xs i 0) (get_or ys i 0) then suc (first_apart (drop (suc i) xs) (drop (suc i) ys)) else 0)
-  front = ap₂ first_apart (drop-cons xs i 0 l) (drop-cons ys i 0 m)
-
-  -- another byte
-  pub differs : (get_or xs i 0 ≡ get_or ys i 0 → ⊥) → first_apart (drop i xs) (drop i ys) ≡ 0
-  differs h = front ∙ rw (ne_eqb (get_or xs i 0) (get_or ys i 0) h) refl
-
-  -- the same byte: the rest decides
-  pub alike : get_or xs i 0 ≡ get_or ys i 0 → first_apart (drop i xs) (drop i ys) ≡ suc (first_apart (drop (i + 1) xs) (drop (i + 1) ys))
-  alike h = front ∙ rw (eq-eqb (get_or xs i 0) (get_or ys i 0) h, add-one i) refl
-
-none_right : (xs : List ℕ) → first_apart xs [] ≡ 0
-none_right [] = refl
-none_right (x ∷ xs) = refl
-
--- one of them is at its end
-pub over : (xs ys : List ℕ) (i : ℕ) → min (length xs) (length ys) ≤ i → first_apart (drop i xs) (drop i ys) ≡ 0
-over xs ys i h = go (leb (length xs) i) refl
+-- the first pair of other bytes is where they differ
+first_pair : (xs ys : List ℕ) → position_or_len (λ p. not (eqb p.0 p.1)) (zip xs ys) ≡ first_apart xs ys
+first_pair [] ys = refl
+first_pair (x ∷ xs) [] = refl
+first_pair (x ∷ xs) (y ∷ ys) = go (eqb x y) refl (first_pair xs ys)
   where
-    go : (b : Bool) → leb (length xs) i ≡ b → first_apart (drop i xs) (drop i ys) ≡ 0
-    go true e = ap (λ (z : List ℕ). first_apart z (drop i ys)) (drop_of_length-le xs {i = i} (leb-true (length xs) i e))
-    go false e =
-        let k : i < length xs = leb-false (length xs) i e in
-        ap (first_apart (drop i xs)) (drop_of_length-le ys {i = i} (omega arith)) ∙ none_right (drop i xs)
+    go : (b : Bool) → eqb x y ≡ b → position_or_len (λ p. not (eqb p.0 p.1)) (zip xs ys) ≡ first_apart xs ys
+        → position_or_len (λ p. not (eqb p.0 p.1)) (zip (x ∷ xs) (y ∷ ys)) ≡ first_apart (x ∷ xs) (y ∷ ys)
+    go true e h = rw e (omega (arith, h))
+    go false e h = rw e refl
+
+apart_most : (xs ys : List ℕ) → first_apart xs ys ≤ min (length xs) (length ys)
+apart_most [] ys = omega arith
+apart_most (x ∷ xs) [] = omega arith
+apart_most (x ∷ xs) (y ∷ ys) = go (eqb x y) refl (apart_most xs ys)
+  where
+    go : (b : Bool) → eqb x y ≡ b → first_apart xs ys ≤ min (length xs) (length ys) → first_apart (x ∷ xs) (y ∷ ys) ≤ min (length (x ∷ xs)) (length (y ∷ ys))
+    go true e h = rw e (omega (arith, h))
+    go false e h = rw e (omega arith)
+
+-- of the pairs the first of other bytes, or their number where none is: where the two first differ
+pub apart_is : (xs ys : List ℕ) (r : Option ℕ) (n : ℕ) → n ≡ min (length xs) (length ys)
+    → r ≡ cond (ltb (position_or_len (λ p. not (eqb p.0 p.1)) (zip xs ys)) (length (zip xs ys))) (Some (position_or_len (λ p. not (eqb p.0 p.1)) (zip xs ys))) None
+    → unwrap_or r n ≡ first_apart xs ys
+apart_is xs ys r n m e = go (ltb (first_apart xs ys) (min (length xs) (length ys))) refl (rw (first_pair xs ys, length-zip xs ys) at e)
+  where
+    go : (b : Bool) → ltb (first_apart xs ys) (min (length xs) (length ys)) ≡ b
+        → r ≡ cond (ltb (first_apart xs ys) (min (length xs) (length ys))) (Some (first_apart xs ys)) None → unwrap_or r n ≡ first_apart xs ys
+    go true h q = rw (q, h) refl
+    go false h q = let k : min (length xs) (length ys) ≤ first_apart xs ys = ltb-false _ _ h in rw (q, h) (omega (arith, apart_most xs ys, m))
 
 -- where they differ before the end, they do
 pub place_differs : (xs ys : List ℕ) → length xs ≡ length ys → first_apart xs ys < length ys → get_or xs (first_apart xs ys) 0 ≡ get_or ys (first_apart xs ys) 0 → ⊥

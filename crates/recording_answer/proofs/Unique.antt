@@ -1,4 +1,5 @@
 -- Two results that a promise of this crate allows are equal, and so is what it leaves in each thing lent.
+use Rattle.std.specs.Prelude.{Option}
 use mathlib.Core.Path.{◌≡◌}
 use mathlib.Core.List.{List}
 use Prim.Native.Nat.{ℕ}
@@ -6,14 +7,13 @@ use Rattle.common.specs.Choice.{Unique}
 use Rattle.common.proofs.Choice.{only}
 use Rattle.text.specs.Writing.{laid_at, behind}
 use Rattle.model_types.specs.declared.Phase.{Phase}
-use Rattle.recording.specs.declared.Heard.{Heard}
 use Rattle.recording.specs.declared.Why.{Why}
 use Rattle.recording_answer.specs.Lines.{fault_line, bad_line, accepted_line, end_text, first_apart}
 
-pub put_fault_unique : (out : List ℕ) (at n : ℕ) (heard : Heard) (w : Why) → Unique (λ (r : ℕ). r ≡ behind out at (fault_line n heard w))
+pub put_fault_unique : (out : List ℕ) (at n : ℕ) (heard : Option ℕ) (w : Why) → Unique (λ (r : ℕ). r ≡ behind out at (fault_line n heard w))
 put_fault_unique out at n heard w = only (behind out at (fault_line n heard w))
 
-pub put_fault_out_unique : (out : List ℕ) (at n : ℕ) (heard : Heard) (w : Why) → Unique (λ (left : List ℕ). left ≡ laid_at out at (fault_line n heard w))
+pub put_fault_out_unique : (out : List ℕ) (at n : ℕ) (heard : Option ℕ) (w : Why) → Unique (λ (left : List ℕ). left ≡ laid_at out at (fault_line n heard w))
 put_fault_out_unique out at n heard w = only (laid_at out at (fault_line n heard w))
 
 pub put_bad_unique : (out : List ℕ) (at n : ℕ) → Unique (λ (r : ℕ). r ≡ behind out at (bad_line n))

@@ -1,11 +1,9 @@
 -- What is said of a recording: a fault with its line, what was seen and what the rules give; a line that is none; the end; acceptance.
-use Rattle.std.specs.Prelude.{List, [], ◌∷◌, ◌++◌, ℕ, suc, eqb, ltb, length, if◌then◌else◌}
+use Rattle.std.specs.Prelude.{List, [], ◌∷◌, ◌++◌, ℕ, suc, eqb, ltb, length, if◌then◌else◌, Option, Some, None}
 use Rattle.text.specs.Digits.{spelled, decimal_of}
 use Rattle.text.specs.Writing.{bytes}
 use Rattle.model_types.specs.declared.Phase.{Phase}
 use Rattle.model_types.specs.declared.Phase.TheVariants.{Free, EraseAwaited, DataAwaited, Programming, Erasing, Suspending, Suspended}
-use Rattle.recording.specs.declared.Heard.{Heard}
-use Rattle.recording.specs.declared.Heard.TheVariants.{Silence, Told}
 use Rattle.recording.specs.declared.Why.{Why}
 
 -- the hexadecimal digits that data below 2 to the 64 is told in: two, four, eight or sixteen, so that none is left out
@@ -29,9 +27,9 @@ abbrev pub address_text : ℕ → List ℕ
 address_text v = spelled 16 (address_width v) v []
 
 -- the answer seen, as its line has it
-abbrev pub heard_text : Heard → List ℕ
-heard_text Silence = bytes "N --"
-heard_text (Told w) = bytes "D " ++ data_text w
+abbrev pub heard_text : Option ℕ → List ℕ
+heard_text None = bytes "N --"
+heard_text (Some w) = bytes "D " ++ data_text w
 
 -- a number between two texts
 abbrev pub around : List ℕ → ℕ → List ℕ → List ℕ
@@ -49,18 +47,18 @@ rules_text kind value =
     else given_text value
 
 -- what was seen, and what the rules do
-abbrev pub seen_text : Heard → ℕ → ℕ → List ℕ
+abbrev pub seen_text : Option ℕ → ℕ → ℕ → List ℕ
 seen_text h kind value = ((bytes "seen " ++ heard_text h) ++ bytes ", the rules ") ++ rules_text kind value
 
 -- why a record is at fault
-unfoldable pub why_text : Heard → Why → List ℕ
+unfoldable pub why_text : Option ℕ → Why → List ℕ
 why_text h w =
     if eqb w.kind 1 then around (bytes "the count ") w.value (bytes " is not 1 to 65535\n")
     else if eqb w.kind 2 then bytes "an operation is cut\n"
     else seen_text h w.kind w.value
 
 -- a record at fault, by its line
-abbrev pub fault_line : ℕ → Heard → Why → List ℕ
+abbrev pub fault_line : ℕ → Option ℕ → Why → List ℕ
 fault_line n h w = around (bytes "line ") n (bytes " is at fault: ") ++ why_text h w
 
 -- a line that is none

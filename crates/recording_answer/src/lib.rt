@@ -2,7 +2,6 @@
 #![tactic(auto)]
 
 ghost use Rattle.std.specs.Prelude.{◌≡◌, [], ◌≤◌};
-ghost use Rattle.recording.specs.declared.Heard.TheVariants.{Told};
 ghost use Rattle.text.specs.Digits.{spelled};
 ghost use Rattle.text.specs.Writing.{laid_at, behind};
 ghost use Rattle.recording_answer.specs.Lines.{data_width, address_width, data_text, address_text, heard_text, around, given_text};
@@ -10,7 +9,7 @@ ghost use Rattle.recording_answer.specs.Lines.{rules_text, seen_text, why_text, 
 ghost use Rattle.recording_answer.specs.Lines.{shorter_text, lengths_text, place_text, array_text, end_text, first_apart};
 
 use model_types::Phase;
-use recording::{Heard, Why};
+use recording::Why;
 
 // So many hexadecimal digits of a number.
 fn put_hex(out: &mut [u8], at: usize, n: usize, v: u64) -> usize
@@ -68,21 +67,21 @@ fn put_address(out: &mut [u8], at: usize, v: u64) -> usize
 
 // Data that was seen.
 fn put_told(out: &mut [u8], at: usize, v: u16) -> usize
-    ensures result { result ≡ behind out.old at (heard_text (Told v)) }
-    ensures out_left { out.new ≡ laid_at out.old at (heard_text (Told v)) }
+    ensures result { result ≡ behind out.old at (heard_text (Some v)) }
+    ensures out_left { out.new ≡ laid_at out.old at (heard_text (Some v)) }
 {
     let a = text::put_text(out, at, b"D ");
     put_data(out, a, v as u64)
 }
 
 // The answer seen.
-fn put_heard(out: &mut [u8], at: usize, heard: Heard) -> usize
+fn put_heard(out: &mut [u8], at: usize, heard: Option<u16>) -> usize
     ensures result { result ≡ behind out.old at (heard_text heard) }
     ensures out_left { out.new ≡ laid_at out.old at (heard_text heard) }
 {
     match heard {
-        Heard::Silence => text::put_text(out, at, b"N --"),
-        Heard::Told(v) => put_told(out, at, v),
+        None => text::put_text(out, at, b"N --"),
+        Some(v) => put_told(out, at, v),
     }
 }
 
@@ -119,7 +118,7 @@ fn put_rules(out: &mut [u8], at: usize, kind: u8, value: u32) -> usize
     put_given(out, at, value)
 }
 
-fn put_seen(out: &mut [u8], at: usize, heard: Heard, kind: u8, value: u32) -> usize
+fn put_seen(out: &mut [u8], at: usize, heard: Option<u16>, kind: u8, value: u32) -> usize
     ensures result { result ≡ behind out.old at (seen_text heard kind value) }
     ensures out_left { out.new ≡ laid_at out.old at (seen_text heard kind value) }
 {
@@ -130,7 +129,7 @@ fn put_seen(out: &mut [u8], at: usize, heard: Heard, kind: u8, value: u32) -> us
 }
 
 // Why a record is at fault.
-fn put_why(out: &mut [u8], at: usize, heard: Heard, w: Why) -> usize
+fn put_why(out: &mut [u8], at: usize, heard: Option<u16>, w: Why) -> usize
     ensures result { result ≡ behind out.old at (why_text heard w) }
     ensures out_left { out.new ≡ laid_at out.old at (why_text heard w) }
 {
@@ -146,7 +145,7 @@ fn put_why(out: &mut [u8], at: usize, heard: Heard, w: Why) -> usize
 }
 
 // A record at fault, by its line.
-pub fn put_fault(out: &mut [u8], at: usize, n: u32, heard: Heard, w: Why) -> usize
+pub fn put_fault(out: &mut [u8], at: usize, n: u32, heard: Option<u16>, w: Why) -> usize
     ensures result { result ≡ behind out.old at (fault_line n heard w) }
     ensures out_left { out.new ≡ laid_at out.old at (fault_line n heard w) }
 {
@@ -181,14 +180,10 @@ pub fn apart_at(a: &[u8], b: &[u8]) -> usize
     ensures { result ≡ first_apart a.now b.now }
 {
     let n = common::least(a.len(), b.len());
-    let mut i = 0;
-    while i < n {
-        if a[i] != b[i] {
-            return i;
-        }
-        i += 1;
-    }
-    i
+    a.iter()
+        .zip(b.iter())
+        .position(|(x, y)| *x != *y)
+        .unwrap_or(n)
 }
 
 fn put_differs(out: &mut [u8], at: usize, v: u64) -> usize

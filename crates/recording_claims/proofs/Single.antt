@@ -1,4 +1,5 @@
 -- A recording whose counts are the device's own is a history of the device.
+use Rattle.std.specs.Prelude.{Option}
 use mathlib.Core.Path.{◌≡◌, refl, sym, ap, ◌∙◌}
 use mathlib.Core.Bool.{Bool, true, false, not, ◌||◌}
 use mathlib.Core.List.{List, [], ◌∷◌}
@@ -32,7 +33,6 @@ use Rattle.model.specs.Arrays.{array_of, is_refusal, seen_of, array_after, answe
 use Rattle.model.proofs.Claims.{stays_proper}
 use Rattle.model.proofs.Outcome.{outcome, accept_effect}
 use Rattle.model_history.specs.History.{World, world_of, stepped, world_after, effects_in, accepts_all, is_cut, uncut}
-use Rattle.recording.specs.declared.Heard.{Heard}
 use Rattle.recording.specs.declared.Noted.{Noted}
 use Rattle.recording.specs.Recordings.{starts, outside, wrong_count, cuts_off, count_of, time_of, device_for, agrees, answer_to, faulty}
 use Rattle.recording.proofs.Seeing.{settles_nothing}
@@ -45,7 +45,7 @@ use Rattle.recording_claims.proofs.Timing.{accepts_same}
 use Rattle.recording_claims.proofs.Telling.{one_cycle}
 
 -- an answer that agrees is no refusal
-answers : (x : Reply) (us : List ℕ) (h : Heard) → agrees (seen_of x us) h ≡ true → is_refusal x ≡ false
+answers : (x : Reply) (us : List ℕ) (h : Option ℕ) → agrees (seen_of x us) h ≡ true → is_refusal x ≡ false
 answers Quiet us h e = refl
 answers (Gives v) us h e = refl
 answers (GivesArray a) us h e = refl

@@ -1,5 +1,5 @@
 -- What the model records of its own cycles: each cycle with the answer that the host sees, and at a start the busy time that it uses.
-use Rattle.std.specs.Prelude.{Bool, true, not, ◌&&◌, List, [], ◌∷◌, ℕ, length}
+use Rattle.std.specs.Prelude.{Bool, true, not, ◌&&◌, List, [], ◌∷◌, ℕ, length, Option, Some, None}
 use Rattle.units.specs.Units.{units, lent}
 use Rattle.device.specs.declared.Device.{Device}
 use Rattle.model_types.specs.declared.Decision.{Decision}
@@ -11,8 +11,6 @@ use Rattle.model.specs.declared.Seen.{Seen}
 use Rattle.model.specs.declared.Seen.TheVariants.{NoData, Data, Refused}
 use Rattle.model.specs.Arrays.{is_refusal, answer_of, bytes_after}
 use Rattle.model_history.specs.History.{Bus, is_cut}
-use Rattle.recording.specs.declared.Heard.{Heard}
-use Rattle.recording.specs.declared.Heard.TheVariants.{Silence, Told}
 use Rattle.recording.specs.declared.Noted.{Noted}
 use Rattle.recording_walk.specs.Lists.{Held, held_of}
 
@@ -40,10 +38,10 @@ smoothly d v (b ∷ bs) =
     (not (is_refusal (decided_on d v b).reply) && not (is_cut (decided_on d v b).effect)) && smoothly d (made_one d v b) bs
 
 -- an answer as it is noted down
-abbrev pub heard_of : Seen → Heard
-heard_of NoData = Silence
-heard_of (Data x) = Told x
-heard_of (Refused m) = Silence
+abbrev pub heard_of : Seen → Option ℕ
+heard_of NoData = None
+heard_of (Data x) = Some x
+heard_of (Refused m) = None
 
 -- the busy time that a confirm or data would use: E or P
 abbrev pub time_used : Device → Phase → ℕ

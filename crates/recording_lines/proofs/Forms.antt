@@ -1,4 +1,5 @@
 -- Record lines and records: what is printed is read back, and what is read prints as itself.
+use Rattle.std.specs.Prelude.{Option, Some, None}
 use mathlib.Core.Path.{◌≡◌, refl, sym, ap, ◌∙◌, subst}
 use mathlib.Core.Bool.{Bool, true, false, ◌||◌}
 use mathlib.Core.List.{List, [], ◌∷◌, ◌++◌}
@@ -9,8 +10,6 @@ use lib.Dec.{eqb, ltb}
 use lib.ListN.{length, get_or, take}
 use borrow.Author.Tests.{eqb-true, ne_eqb, ltb-true}
 use Rattle.common.proofs.Choice.{if_true, if_false, and_left, and_right, unlike}
-use Rattle.recording.specs.declared.Heard.{Heard}
-use Rattle.recording.specs.declared.Heard.TheVariants.{Silence, Told}
 use Rattle.recording.specs.declared.Noted.{Noted}
 use Rattle.model_types.specs.declared.Cycle.{Cycle}
 use Rattle.trace_lines.specs.Lines.{Place, is_at, fits, newline, line_form, is_line, five_digits, two_hex, cycle_stated, decimal_digit, line_of, Fits}
@@ -68,14 +67,14 @@ by_form {A} xs f e = go (fits (record_form true true) xs) (fits (record_form tru
     go false false false false p q r s e = absurd (unlike (sym e))
 
 -- what is printed is a line
-answer_seen : Heard → Bool
-answer_seen (Told w) = true
-answer_seen Silence = false
+answer_seen : Option ℕ → Bool
+answer_seen (Some w) = true
+answer_seen None = false
 
-answer_good : (h : Heard) → HeardFits h → fits (answer_form (answer_seen h)) (answer_text h) ≡ true
+answer_good : (h : Option ℕ) → HeardFits h → fits (answer_form (answer_seen h)) (answer_text h) ≡ true
 unfolding fits answer_seen
-answer_good (Told w) f = both (placed 0 w (omega arith) f 17 (omega arith)) (both (placed 0 w (omega arith) f 18 (omega arith)) refl)
-answer_good Silence f = refl
+answer_good (Some w) f = both (placed 0 w (omega arith) f 17 (omega arith)) (both (placed 0 w (omega arith) f 18 (omega arith)) refl)
+answer_good None f = refl
 
 count_good : (t : Bool) (n : ℕ) → CountFits t n → fits (count_form t) (count_text t n) ≡ true
 unfolding fits
@@ -100,20 +99,20 @@ printed_cycle : (c : Cycle) (ys : List ℕ) → Fits c → cycle_stated (front c
 unfolding cycle_stated
 printed_cycle c ys f = (printed c f).1
 
-printed_heard : (c : Cycle) (h : Heard) (ys : List ℕ) → HeardFits h → heard_stated (front c ++ (answer_text h ++ ys)) ≡ h
+printed_heard : (c : Cycle) (h : Option ℕ) (ys : List ℕ) → HeardFits h → heard_stated (front c ++ (answer_text h ++ ys)) ≡ h
 unfolding heard_stated
-printed_heard c (Told w) ys f = ap Told (two_back 0 w (omega arith) f)
-printed_heard c Silence ys f = refl
+printed_heard c (Some w) ys f = ap Some (two_back 0 w (omega arith) f)
+printed_heard c None ys f = refl
 
 no_dash : (n : ℕ) → eqb (decimal_digit n) 45 ≡ false
 no_dash n = ne_eqb (decimal_digit n) 45 (λ (e : decimal_digit n ≡ 45). omega arith)
 
-printed_count : (c : Cycle) (h : Heard) (t : Bool) (n : ℕ) → CountFits t n → count_stated (front c ++ (answer_text h ++ count_text t n)) ≡ n
+printed_count : (c : Cycle) (h : Option ℕ) (t : Bool) (n : ℕ) → CountFits t n → count_stated (front c ++ (answer_text h ++ count_text t n)) ≡ n
 unfolding count_stated
-printed_count c (Told w) true n f = if_false _ _ _ (no_dash (n / 10000)) ∙ five_back n 0 f (omega arith)
-printed_count c Silence true n f = if_false _ _ _ (no_dash (n / 10000)) ∙ five_back n 0 f (omega arith)
-printed_count c (Told w) false n f = sym f
-printed_count c Silence false n f = sym f
+printed_count c (Some w) true n f = if_false _ _ _ (no_dash (n / 10000)) ∙ five_back n 0 f (omega arith)
+printed_count c None true n f = if_false _ _ _ (no_dash (n / 10000)) ∙ five_back n 0 f (omega arith)
+printed_count c (Some w) false n f = sym f
+printed_count c None false n f = sym f
 
 pub printed_record : (t : Bool) (r : Noted) → RecordFits t r → record_stated (record_line t r) ≡ r
 unfolding record_stated
@@ -162,15 +161,15 @@ answer_again true k xs e =
     let x = get_or xs 22 0 in
     let y = get_or xs 23 0 in
     let q = digits 48 48 48 48 48 x y zero_digit zero_digit zero_digit zero_digit zero_digit (on true k xs e 22 refl) (on true k xs e 23 refl) in
-    subst (λ (h : Heard). HeardFits h × (answer_text h ≡ spelled 5 19 xs)) (sym (if_true (eqb (get_or xs 20 0) 68) (Told (two_hex x y)) Silence (on true k xs e 20 refl))) (
+    subst (λ (h : Option ℕ). HeardFits h × (answer_text h ≡ spelled 5 19 xs)) (sym (if_true (eqb (get_or xs 20 0) 68) (Some (two_hex x y)) None (on true k xs e 20 refl))) (
       q.1,
       λ j. is (get_or xs 19 0) 32 (on true k xs e 19 refl) j ∷ is (get_or xs 20 0) 68 (on true k xs e 20 refl) j ∷ is (get_or xs 21 0) 32 (on true k xs e 21 refl) j
           ∷ q.7 j ∷ q.8 j ∷ [],
     )
 answer_again false k xs e =
     let n = is (get_or xs 20 0) 78 (on false k xs e 20 refl) in
-    subst (λ (h : Heard). HeardFits h × (answer_text h ≡ spelled 5 19 xs))
-    (sym (if_false (eqb (get_or xs 20 0) 68) (Told (two_hex (get_or xs 22 0) (get_or xs 23 0))) Silence (ap (λ (b : ℕ). eqb b 68) (sym n)))) (
+    subst (λ (h : Option ℕ). HeardFits h × (answer_text h ≡ spelled 5 19 xs))
+    (sym (if_false (eqb (get_or xs 20 0) 68) (Some (two_hex (get_or xs 22 0) (get_or xs 23 0))) None (ap (λ (b : ℕ). eqb b 68) (sym n)))) (
       tt,
       λ j. is (get_or xs 19 0) 32 (on false k xs e 19 refl) j ∷ n j ∷ is (get_or xs 21 0) 32 (on false k xs e 21 refl) j
           ∷ is (get_or xs 22 0) 45 (on false k xs e 22 refl) j ∷ is (get_or xs 23 0) 45 (on false k xs e 23 refl) j ∷ [],

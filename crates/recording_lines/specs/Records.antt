@@ -1,7 +1,6 @@
 -- The lines of a recording: their form, the record that one states, and how a record is printed.
-use Rattle.std.specs.Prelude.{◌≡◌, Bool, true, false, not, ◌||◌, List, [], ◌∷◌, ◌++◌, ℕ, ◌/◌, ◌%◌, ◌<◌, eqb, get_or, take, if◌then◌else◌}
-use Rattle.recording.specs.declared.Heard.{Heard}
-use Rattle.recording.specs.declared.Heard.TheVariants.{Silence, Told}
+use Rattle.std.specs.Prelude.{◌≡◌, Bool, true, false, not, ◌||◌, List, [], ◌∷◌, ◌++◌}
+use Rattle.std.specs.Prelude.{ℕ, ◌/◌, ◌%◌, ◌<◌, eqb, get_or, take, if◌then◌else◌, Option, Some, None}
 use Rattle.recording.specs.declared.Noted.{Noted}
 use Rattle.trace_lines.specs.Lines.{Place, a_digit, a_hex, exactly, fits, space, newline, line_form, two_hex, five_digits, cycle_stated}
 use Rattle.trace_lines.specs.Lines.{decimal_digit, line_of, Fits}
@@ -36,8 +35,8 @@ is_record xs =
     || (fits (record_form false true) xs || fits (record_form false false) xs)
 
 -- the answer that a line states
-unfoldable pub heard_stated : List ℕ → Heard
-heard_stated xs = if eqb (get_or xs 20 0) 68 then Told (two_hex (get_or xs 22 0) (get_or xs 23 0)) else Silence
+unfoldable pub heard_stated : List ℕ → Option ℕ
+heard_stated xs = if eqb (get_or xs 20 0) 68 then Some (two_hex (get_or xs 22 0) (get_or xs 23 0)) else None
 
 -- the busy count that a line states, 0 where none is told
 unfoldable pub count_stated : List ℕ → ℕ
@@ -49,9 +48,9 @@ unfoldable pub record_stated : List ℕ → Noted
 record_stated xs = record { cycle = cycle_stated xs; heard = heard_stated xs; busy = count_stated xs }
 
 -- an answer seen, printed
-abbrev pub answer_text : Heard → List ℕ
-answer_text (Told w) = 32 ∷ 68 ∷ 32 ∷ digit_letter (w / 16 % 16) ∷ digit_letter (w % 16) ∷ []
-answer_text Silence = 32 ∷ 78 ∷ 32 ∷ 45 ∷ 45 ∷ []
+abbrev pub answer_text : Option ℕ → List ℕ
+answer_text (Some w) = 32 ∷ 68 ∷ 32 ∷ digit_letter (w / 16 % 16) ∷ digit_letter (w % 16) ∷ []
+answer_text None = 32 ∷ 78 ∷ 32 ∷ 45 ∷ 45 ∷ []
 
 -- a count printed, told or not
 abbrev pub count_text : Bool → ℕ → List ℕ
@@ -68,9 +67,9 @@ abbrev pub record_line_of : Noted → List ℕ
 record_line_of r = record_line (not (eqb r.busy 0)) r
 
 -- an answer that fits a line: data is a byte
-abbrev pub HeardFits : Heard → Type 0
-HeardFits (Told w) = w < 256
-HeardFits Silence = Unit {0}
+abbrev pub HeardFits : Option ℕ → Type 0
+HeardFits (Some w) = w < 256
+HeardFits None = Unit {0}
 
 -- a count that fits: five digits, and 0 where it is not told
 abbrev pub CountFits : Bool → ℕ → Type 0

@@ -9,7 +9,7 @@ ghost use Rattle.trace_lines.specs.Inner.{met_from};
 ghost use Rattle.recording_lines.specs.Records.{answer_form, count_form, is_record, heard_stated, count_stated, record_stated};
 ghost use Rattle.recording_lines.specs.Inner.{trace_line, answer_met, count_met};
 
-use recording::{Heard, Noted};
+use recording::Noted;
 
 // The first 19 characters are a trace line's.
 fn good_cycle(line: &[u8]) -> bool
@@ -94,13 +94,13 @@ fn two(a: u8, b: u8) -> u16
 }
 
 // The answer that a line states.
-fn heard_in(line: &[u8]) -> Heard
+fn heard_in(line: &[u8]) -> Option<u16>
     ensures { result ≡ heard_stated line.now }
 {
     if common::nth(line, 20) == b'D' {
-        return Heard::Told(two(common::nth(line, 22), common::nth(line, 23)));
+        return Some(two(common::nth(line, 22), common::nth(line, 23)));
     }
-    Heard::Silence
+    None
 }
 
 fn digit(b: u8) -> u32

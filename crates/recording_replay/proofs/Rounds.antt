@@ -7,7 +7,7 @@ use native.Mathlib.Omega.{arith}
 use lib.Dec.{eqb}
 use lib.ListN.{length, take, drop, length-append, length-drop, take-append-drop}
 use lib.Seq.{drop-drop, take_at, length-take-le}
-use borrow.Rule.Slice.PartMut.{put_mid, mid_of, mid_len, drop_put, same_len_mid}
+use borrow.Rule.Slice.PartMut.{put_mid, mid_of, mid_len, drop_put}
 use Rattle.common.specs.Lists.{copied}
 use Rattle.common.proofs.Lists.{copied_whole}
 use Rattle.model_types.specs.declared.State.{State}
@@ -152,11 +152,6 @@ module _ (g i n : ℕ) (l t : Log) (xs ys zs rs text out : List ℕ) (h : i < g)
       let e : 31 * i + 31 ≡ 31 * (i + 1) = omega arith in
       put_drop
       ∙ subst (λ (j : ℕ). drop j out ≡ drop j out₀) e (sym (drop-drop 31 (31 * i) out) ∙ ap (λ (w : List ℕ). drop 31 w) q ∙ drop-drop 31 (31 * i) out₀)
-
-  pub round_length : length (put_mid (31 * i) (31 * i + 31 - 31 * i) out zs) ≡ length out
-  round_length =
-      let e : 31 ≡ 31 * i + 31 - 31 * i = omega arith in
-      same_len_mid (31 * i) (31 * i + 31 - 31 * i) out zs (wide ∙ e ∙ sym (mid_len (31 * i) (31 * i + 31) out room))
 
 -- after the last round: the lines, and past them what was there
 pub round_over : (g i : ℕ) (s : State) (xs rs text out out₀ C : List ℕ) → i ≡ g → take (31 * i) out ++ lines_from (g - i) s xs rs (drop (20 * i) text) ≡ C

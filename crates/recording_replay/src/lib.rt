@@ -16,6 +16,7 @@ ghost use Rattle.recording_replay.specs.Recorded.{no_room};
 ghost use Rattle.recording_replay.specs.Recorded.{trace_made, array_made, out_made, line_note, refused_note, note_of};
 
 use device::Device;
+use engines::Rules;
 use model::{Answer, Seen};
 use model_levels::{rp_low, vpp_low};
 use model_states::is_pending;
@@ -196,7 +197,7 @@ fn next(l: Log, n: u32, line: &[u8], array: &mut [u8], residue: &[u8], out: &mut
     let s = l.state;
     let c = trace_lines::cycle_in(line);
     let busy = busy_of(d, s, c);
-    let a = trace_replay::step(engines::RULES, s, c, array, residue);
+    let a = trace_replay::step::<Rules>(s, c, array, residue);
     let seen = a.seen;
     write_line(line, seen, busy, out);
     log_by(d, l, n, c, a)
@@ -225,15 +226,11 @@ fn record_lines(g: usize, text: &[u8], array: &mut [u8], residue: &[u8], out: &m
         ≡ lines_from g fresh_state array.old residue.now text.now ++ drop (31 * g) out.old }
 {
     let mut l = no_log();
-    let mut i = 0;
-    while i < g {
+    for i in 0..g {
         let a = 20 * i;
-        let e = a + 20;
         let p = 31 * i;
-        let q = p + 31;
         let n = i as u32 + 1;
-        l = next(l, n, &text[a..e], array, residue, &mut out[p..q]);
-        i += 1;
+        l = next(l, n, &text[a..a + 20], array, residue, &mut out[p..p + 31]);
     }
     l
 }
@@ -266,15 +263,7 @@ fn used_for(number: u8, bad: u32, g: usize) -> usize
 fn is_free(ph: Phase) -> bool
     ensures { result ≡ is_free ph }
 {
-    match ph {
-        Phase::Free => true,
-        Phase::EraseAwaited => false,
-        Phase::DataAwaited => false,
-        Phase::Programming(_) => false,
-        Phase::Erasing => false,
-        Phase::Suspending(_) => false,
-        Phase::Suspended => false,
-    }
+    matches!(ph, Phase::Free)
 }
 
 fn made_from(g: usize, bad: u32, l: Log) -> Made

@@ -6,7 +6,7 @@ use Prim.Native.Nat.{ℕ, ◌≤◌, ◌<◌}
 use native.Mathlib.Omega.{arith}
 use lib.Dec.{eqb}
 use lib.ListN.{length, get_or}
-use Rattle.std.specs.Prelude.{if◌then◌else◌}
+use Rattle.std.specs.Prelude.{if◌then◌else◌, Option}
 use Rattle.common.proofs.Choice.{if_ind, if_true, if_false, unlike}
 use Rattle.units.specs.Units.{lent, top}
 use Rattle.units.proofs.Widths.{lent_even}
@@ -34,7 +34,6 @@ use Rattle.model.specs.Arrays.{is_refusal, seen_of, array_after, answer_of, byte
 use Rattle.model.proofs.Claims.{stays_proper, stays_cells, byte_mode_bytes, status_is_byte}
 use Rattle.model.proofs.Outcome.{outcome, accept_cases, accept_effect}
 use Rattle.model_history.specs.History.{Bus, is_cut}
-use Rattle.recording.specs.declared.Heard.{Heard}
 use Rattle.recording.specs.declared.Noted.{Noted}
 use Rattle.recording.specs.Recordings.{starts, longest, outside, wrong_count, cuts_off, count_of, time_of, timed, agrees, answer_to, faulty}
 use Rattle.recording_lines.specs.Records.{HeardFits}
@@ -47,7 +46,7 @@ use Rattle.recording_replay_claims.specs.Kept.{record_for}
 use Rattle.trace_replay.specs.Replays.{bench_t, line_step, array_by}
 
 -- a count that is not read does not matter
-module _ (d : Device) (s : State) (c : Cycle) (h : Heard) (m n : ℕ) (same : starts d.part s c ≡ true → m ≡ n) where
+module _ (d : Device) (s : State) (c : Cycle) (h : Option ℕ) (m n : ℕ) (same : starts d.part s c ≡ true → m ≡ n) where
   abbrev with : ℕ → Noted
   with k = record { cycle = c; heard = h; busy = k }
 
@@ -179,7 +178,7 @@ module _ (s : State) (c : Cycle) (xs rs : List ℕ) where
     effect : is_cut (decide_of bench_t s c (length (lent false xs)) (length rs)).effect ≡ false
     effect = ap (λ (us : List ℕ). is_cut (decide_of bench_t s c (length us) (length rs)).effect) even ∙ uncut whole
 
-    abbrev heard : Heard
+    abbrev heard : Option ℕ
     heard = heard_of (answered_on bench_t v b).seen
 
     pub line_fine : faulty bench_t s (record_for s c xs rs) xs ≡ false

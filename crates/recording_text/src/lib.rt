@@ -39,11 +39,10 @@ fn good_at(text: &[u8], i: usize) -> bool
     ensures { result ≡ is_record (take 31 (drop (31 * i) text.now)) }
 {
     let a = 31 * i;
-    let e = a + 31;
-    if text.len() < e {
-        return false;
+    match text.get(a..a + 31) {
+        Some(line) => recording_lines::is_record(line),
+        None => false,
     }
-    recording_lines::is_record(&text[a..e])
 }
 
 // The good lines are read and walked one by one; line 9999 is not asked.
@@ -52,18 +51,17 @@ fn walk_lines(text: &[u8], from: Walk, array: &mut [u8]) -> Come
         × (array.new ≡ bytes_over array.old from (records_of text.now)) }
 {
     let mut w = from;
-    let mut i = 0;
-    while i < 9998 {
-        if good_at(text, i) {
-            let a = 31 * i;
-            let e = a + 31;
-            w = next(w, &text[a..e], array);
-            i += 1;
-        } else {
+    for i in 0..9998 {
+        if !good_at(text, i) {
             return Come { walk: w, lines: i };
         }
+        let a = 31 * i;
+        w = next(w, &text[a..a + 31], array);
     }
-    Come { walk: w, lines: i }
+    Come {
+        walk: w,
+        lines: 9998,
+    }
 }
 
 // The first bad line behind n good ones, or 0.

@@ -6,7 +6,7 @@ use Prim.Native.Nat.{ℕ, suc, ◌+◌, ◌≤◌}
 use native.Mathlib.Omega.{arith}
 use lib.Dec.{eqb, ltb}
 use lib.ListN.{length, length-append}
-use Rattle.std.specs.Prelude.{if◌then◌else◌}
+use Rattle.std.specs.Prelude.{if◌then◌else◌, Option, Some, None}
 use Rattle.common.proofs.Choice.{if_ind}
 use Rattle.text.specs.Digits.{decimal_of}
 use Rattle.text.specs.Writing.{bytes}
@@ -16,8 +16,6 @@ use Rattle.device.specs.declared.Device.{Device}
 use Rattle.model_types.specs.declared.Phase.{Phase}
 use Rattle.model_types.specs.declared.Phase.TheVariants.{Free, EraseAwaited, DataAwaited, Programming, Erasing, Suspending, Suspended}
 use Rattle.model_states.specs.States.{fresh_state}
-use Rattle.recording.specs.declared.Heard.{Heard}
-use Rattle.recording.specs.declared.Heard.TheVariants.{Silence, Told}
 use Rattle.recording.specs.declared.Noted.{Noted}
 use Rattle.recording.specs.declared.Why.{Why}
 use Rattle.recording.specs.Recordings.{faulty, why_of}
@@ -53,9 +51,9 @@ place_most v = omega (arith, spelled_length 16 (address_width v) v [], address_m
 around_most : (k m : ℕ) (A : List ℕ) (n : ℕ) (B : List ℕ) → Most k A → Most m B → Most (k + 10 + m) (around A n B)
 around_most k m A n B p q = both (k + 10) m (A ++ decimal_of n) B (both k 10 A (decimal_of n) p (decimal_most n)) q
 
-heard_most : (h : Heard) → Most 18 (heard_text h)
-heard_most Silence = let e : length (bytes "N --") ≡ 4 = refl in omega (arith, e)
-heard_most (Told w) = both 2 16 (bytes "D ") (data_text w) (let e : length (bytes "D ") ≡ 2 = refl in omega (arith, e)) (hex_most w)
+heard_most : (h : Option ℕ) → Most 18 (heard_text h)
+heard_most None = let e : length (bytes "N --") ≡ 4 = refl in omega (arith, e)
+heard_most (Some w) = both 2 16 (bytes "D ") (data_text w) (let e : length (bytes "D ") ≡ 2 = refl in omega (arith, e)) (hex_most w)
 
 given_most : (v : ℕ) → Most 24 (given_text v)
 given_most v =
@@ -70,14 +68,14 @@ rules_most kind value =
     (let f : length (bytes "\n") ≡ 1 = refl in omega (arith, f)))
     (λ e. if_ind (Most 38) (eqb kind 4) _ _ (λ f. let g : length (bytes "give N --\n") ≡ 10 = refl in omega (arith, g)) (λ f. wider 24 38 (given_text value) (omega arith) (given_most value)))
 
-seen_most : (h : Heard) (kind value : ℕ) → Most 73 (seen_text h kind value)
+seen_most : (h : Option ℕ) (kind value : ℕ) → Most 73 (seen_text h kind value)
 seen_most h kind value =
     both 35 38 ((bytes "seen " ++ heard_text h) ++ bytes ", the rules ") (rules_text kind value)
     (both 23 12 (bytes "seen " ++ heard_text h) (bytes ", the rules ") (both 5 18 (bytes "seen ") (heard_text h) (let e : length (bytes "seen ") ≡ 5 = refl in omega (arith, e)) (heard_most h))
     (let e : length (bytes ", the rules ") ≡ 12 = refl in omega (arith, e)))
     (rules_most kind value)
 
-why_most : (h : Heard) (w : Why) → Most 73 (why_text h w)
+why_most : (h : Option ℕ) (w : Why) → Most 73 (why_text h w)
 unfolding why_text
 why_most h w =
     if_ind (Most 73) (eqb w.kind 1) _ _
@@ -86,7 +84,7 @@ why_most h w =
     (let f : length (bytes " is not 1 to 65535\n") ≡ 19 = refl in omega (arith, f))))
     (λ e. if_ind (Most 73) (eqb w.kind 2) _ _ (λ f. let g : length (bytes "an operation is cut\n") ≡ 20 = refl in omega (arith, g)) (λ f. seen_most h w.kind w.value))
 
-fault_most : (n : ℕ) (h : Heard) (w : Why) → Most 128 (fault_line n h w)
+fault_most : (n : ℕ) (h : Option ℕ) (w : Why) → Most 128 (fault_line n h w)
 fault_most n h w =
     wider 102 128 (fault_line n h w) (omega arith)
     (both 29 73 (around (bytes "line ") n (bytes " is at fault: ")) (why_text h w)

@@ -39,15 +39,7 @@ const MOST: usize = 0xFFFF_FFFF_FFFF_FFFF;
 fn is_free(ph: Phase) -> bool
     ensures { result ≡ is_free ph }
 {
-    match ph {
-        Phase::Free => true,
-        Phase::EraseAwaited => false,
-        Phase::DataAwaited => false,
-        Phase::Programming(_) => false,
-        Phase::Erasing => false,
-        Phase::Suspending(_) => false,
-        Phase::Suspended => false,
-    }
+    matches!(ph, Phase::Free)
 }
 
 // The place after a record: a fault stays where it is.
@@ -141,19 +133,16 @@ pub fn begin(d: Device, s: State, n: usize) -> Walk
     }
 }
 
-// The two slices hold the same bytes. The walk has no stop, so that the compiler takes many bytes at once.
+// The two slices hold the same bytes. The walk has no stop, as `==` has, so that the compiler takes many bytes at once.
 fn same(a: &[u8], b: &[u8]) -> bool
     ensures { result ≡ same_bytes a.now b.now }
 {
     if a.len() != b.len() {
         return false;
     }
-    let n = a.len();
     let mut bits: u8 = 0;
-    let mut i = 0;
-    while i < n {
-        bits = bits | (a[i] ^ b[i]);
-        i += 1;
+    for i in 0..a.len() {
+        bits |= a[i] ^ b[i];
     }
     bits == 0
 }
@@ -192,11 +181,8 @@ pub fn check_recording(
         × (array.new ≡ bytes_checked d s list.now array.old) }
 {
     let mut w = begin(d, s, array.len());
-    let mut i: usize = 0;
-    while i < list.len() {
-        let r = list[i];
-        w = go_on(array, w, r);
-        i += 1;
+    for r in list {
+        w = go_on(array, w, *r);
     }
     end(promised, array, w)
 }

@@ -1,10 +1,10 @@
 -- The wear that a whole recording leaves: the counts of the state that its judgement leaves on a blank bench T, or its first fault.
-use Rattle.std.specs.Prelude.{Bool, List, [], ◌∷◌, ℕ, ◌+◌, eqb, ltb, get_or, replicate, if◌then◌else◌}
+use Rattle.std.specs.Prelude.{Bool, List, [], ◌∷◌, ℕ, ◌+◌, eqb, ltb, get_or, replicate, if◌then◌else◌, Result, Ok}
 use Rattle.model_types.specs.declared.Wear.{Wear}
 use Rattle.recording_text.specs.declared.Judged.{Judged}
 use Rattle.recording_text.specs.Texts.{judged_of}
-use Rattle.trace_wear.specs.declared.Worn.{Worn}
-use Rattle.trace_wear.specs.declared.Worn.TheVariants.{Counted, BadLine}
+use Rattle.trace_wear.specs.declared.BadLine.{BadLine}
+use Rattle.trace_wear.specs.Wears.{bad_as}
 
 -- a text is taken as a recording: its first line goes on at the place where a line of a trace ends
 unfoldable pub looks_recorded : List ℕ → Bool
@@ -23,11 +23,11 @@ abbrev pub fault_of : Judged → ℕ
 fault_of j = fault_in j.lines j.bad j.checked.at
 
 -- its counts; a recording with a fault has none
-abbrev pub worn_by : Judged → Worn
-worn_by j = if eqb (fault_of j) 0 then Counted j.checked.state.wear else BadLine (fault_of j)
+abbrev pub worn_by : Judged → Result Wear BadLine
+worn_by j = if eqb (fault_of j) 0 then Ok j.checked.state.wear else bad_as (fault_of j)
 
 -- the wear that a recording leaves on a blank bench T
-unfoldable pub worn_recorded : List ℕ → Worn
+unfoldable pub worn_recorded : List ℕ → Result Wear BadLine
 worn_recorded text = worn_by (judged_blank text)
 
 -- what a recording tells: the number of its first fault, 0 where none is, and the counts

@@ -5,8 +5,9 @@ ghost use Rattle.std.specs.Prelude.{◌≡◌};
 ghost use Rattle.trace_wear.specs.Wears.{worn_told};
 ghost use Rattle.recording_wear.specs.Recorded.{looks_recorded, fault_in, judged_blank, worn_recorded, recorded_told};
 
+use model_types::Wear;
 use recording_text::Judged;
-use trace_wear::Worn;
+use trace_wear::BadLine;
 
 // A text is taken as a recording where its first line goes on at the place where a line of a trace ends.
 pub fn is_recording(text: &[u8]) -> bool
@@ -35,17 +36,14 @@ fn judged(text: &[u8]) -> Judged
 }
 
 // The counts that a recording leaves, or its first line that is none or whose record is at fault. Such a recording has no counts.
-pub fn count(text: &[u8]) -> Worn
+pub fn count(text: &[u8]) -> Result<Wear, BadLine>
     ensures result { result ≡ worn_recorded text.now }
     ensures told { worn_told result ≡ recorded_told text.now }
 {
     let j = judged(text);
-    let x = j.checked;
-    let s = x.state;
-    let w = s.wear;
-    let n = fault_in(j.lines, j.bad, x.at);
+    let n = fault_in(j.lines, j.bad, j.checked.at);
     if n != 0 {
-        return Worn::BadLine(n);
+        return Err(BadLine { line: n });
     }
-    Worn::Counted(w)
+    Ok(j.checked.state.wear)
 }

@@ -115,25 +115,13 @@ pub fn word_at(left: usize, text: &[u8], at: usize) -> Word
 fn is_ends(w: Word) -> bool
     ensures { result ≡ is_ends w }
 {
-    match w {
-        Word::Ends => true,
-        Word::Bad => false,
-        Word::Traced => false,
-        Word::Opens(_n) => false,
-        Word::Closes => false,
-    }
+    matches!(w, Word::Ends)
 }
 
 fn is_closes(w: Word) -> bool
     ensures { result ≡ is_closes w }
 {
-    match w {
-        Word::Ends => false,
-        Word::Bad => false,
-        Word::Traced => false,
-        Word::Opens(_n) => false,
-        Word::Closes => true,
-    }
+    matches!(w, Word::Closes)
 }
 
 // Whether the text ends at a place.

@@ -11,6 +11,7 @@ ghost use Rattle.trace_replay.specs.Replays.{line_step, array_by, replayed_in, l
 ghost use Rattle.script_run.specs.Runs.{script_output, script_array};
 ghost use Rattle.script_run.specs.Inner.{line_run, past_open, close_run, back_to, RunRead, ItemRun};
 
+use engines::Rules;
 use model_types::State;
 use script_lines::Word;
 use trace_replay::Replayed;
@@ -41,14 +42,7 @@ fn answered(text: &[u8], x: Run, array: &mut [u8], residue: &[u8], out: &mut [u8
     let p = x.used;
     let q = p + 8;
     let s = x.state;
-    let t = trace_replay::answer_line(
-        engines::RULES,
-        s,
-        &text[a..e],
-        array,
-        residue,
-        &mut out[p..q],
-    );
+    let t = trace_replay::answer_line::<Rules>(s, &text[a..e], array, residue, &mut out[p..q]);
     Run {
         at: e,
         left: x.left - 1,
@@ -151,11 +145,9 @@ fn item(text: &[u8], x: Run, depth: usize, array: &mut [u8], residue: &[u8], out
             }
             let mut y = past_open(text, x);
             let mut z = y;
-            let mut i = 0;
-            while i < n {
+            for _ in 0..n {
                 z = list(text, y, depth - 1, array, residue, out);
                 y = back(y, z);
-                i += 1;
             }
             return past_close(text, z);
         }

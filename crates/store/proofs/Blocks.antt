@@ -22,9 +22,6 @@ pub record Small (part : Part) : Type 0 where
   pub bytes : part.word ≡ false
   pub whole : length_of part 3 % 512 ≡ 0
 
-no_part : {A : Type 0} (part : Part) → unknown_part part ≡ true → unknown_part part ≡ false → A
-no_part part a b = absurd (unlike (sym a ∙ b))
-
 small_by : (n : ℕ) (w : Bool) → unknown_part (record { number = n; word = w }) ≡ false → is_large (record { number = n; word = w }) ≡ false → Small (record { number = n; word = w })
 unfolding unknown_part is_large length_of length_in shape_of row_of
 small_by zero w u l = absurd (unlike u)

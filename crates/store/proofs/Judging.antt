@@ -2,7 +2,7 @@
 use mathlib.Core.Path.{◌≡◌, refl, sym, ◌∙◌, ap}
 use mathlib.Core.Bool.{Bool, true, false, not}
 use mathlib.Core.List.{List, [], ◌∷◌, ◌++◌, append-nil}
-use Prim.Native.Nat.{ℕ, ◌+◌, ◌/◌, ◌≤◌}
+use Prim.Native.Nat.{ℕ, ◌/◌}
 use native.Mathlib.Omega.{arith}
 use lib.ListN.{length}
 use lib.Dec.{eqb}
@@ -13,7 +13,7 @@ use Rattle.common.specs.Numbers.{Row, row, given, NoRow}
 use Rattle.common.proofs.Numbers.{given_append, given_no_row, no_head, no_tail}
 use Rattle.device.specs.declared.Part.{Part}
 use Rattle.device.specs.declared.Device.{Device}
-use Rattle.device.specs.Parts.{is_large, size_of, length_of, start_of}
+use Rattle.device.specs.Parts.{is_large, size_of, length_of}
 use Rattle.model_types.specs.declared.Pins.{Pins}
 use Rattle.model_types.specs.declared.State.{State}
 use Rattle.units.specs.Units.{lent_in}
@@ -27,7 +27,7 @@ use Rattle.store_find.specs.declared.Found.{Found}
 use Rattle.store_contents.specs.Contents.{unlike, room_rows, drop_in_number, add_in_number, memory_by}
 use Rattle.store_contents.proofs.Numbers.{read_then, memory_was}
 use Rattle.store.specs.Stores.{main_of, no_store, seek_number, found_on, change_rows, change_number, drop_rows, adding_rows, drop_number, add_number, change_job}
-use Rattle.store.proofs.Blocks.{Small, small, known_part, store_small, block_long, block_whole, handed_ends}
+use Rattle.store.proofs.Blocks.{Small, small, known_part, store_small, block_long, block_whole}
 
 -- the second table is asked where the first gives nothing
 stays : (a x : ℕ) → (a ≡ 0 → ⊥) → (if eqb a 0 then x else a) ≡ a
@@ -149,9 +149,6 @@ module _ (d : Device) (s : State) (p : Pins) (xs : List ℕ) (memory scratch : �
       ∙ ap (λ (n : ℕ). if eqb (reader_number limit ℓ f) 0 then n else reader_number limit ℓ f) (ap (λ (t : Bool). if not t then 44 else given own) whole)
       ∙ sym (read_then f ℓ own)
       ∙ sym (change_own d s p (length xs) memory scratch (read_rows limit f ℓ own) z)
-
-  pub change_ends : (a n : ℕ) → a ≡ start_of d.part 3 → n ≡ length_of d.part 3 → a + n ≤ length xs
-  change_ends a n ea en = handed_ends d.part xs a n ea en sized
 
 -- refused before its own rows
 module _ (d : Device) (s : State) (p : Pins) (xs : List ℕ) (memory : List ℕ) (scratch : ℕ) (n : ℕ) (e : n ≡ change_number d s p (length xs) (length memory) scratch) (z : n ≡ 0 → ⊥) where

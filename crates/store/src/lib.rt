@@ -2,8 +2,7 @@
 // of block 3 with its new contents as wanted; nothing else is written into the array.
 #![tactic(auto)]
 
-ghost use Rattle.std.specs.Prelude.{◌≡◌, not, [], ◌∷◌, length, eqb};
-ghost use Rattle.common.specs.Numbers.{row, given};
+ghost use Rattle.std.specs.Prelude.{◌≡◌, length};
 ghost use Rattle.device.specs.Parts.{size_of};
 ghost use Rattle.file_codec.specs.File.{limit, in_room, left_in};
 ghost use Rattle.reading.specs.Readings.{answer_as, answer_told, told_as};
@@ -22,6 +21,7 @@ use reading::ReadingAnswer;
 use store_find::Found;
 
 // 1: the part is not known, or is one of 5 to 8.
+#[tactic(auto, unfolding(crate::specs::Stores::no_store))]
 fn no_store(part: Part) -> bool
     ensures { result ≡ no_store part }
 {
@@ -41,6 +41,17 @@ pub fn part_number(part: Part, array: usize) -> u8
     0
 }
 
+// The block that holds the store, in an array that is as long as the part.
+#[tactic(auto, using(crate::proofs::Blocks::handed, crate::proofs::Blocks::handed_ends))]
+fn main_block(part: Part, array: &[u8]) -> &[u8]
+    requires { length array.now ≡ size_of part }
+    ensures { result.now ≡ main_of part array.now }
+{
+    let from = device::start(part, 3);
+    let to = from + device::length(part, 3);
+    &array[from..to]
+}
+
 // The file under a letter into the front of room: 1, 2, 44, 42, 37, or 0 and its length.
 pub fn find_letter(part: Part, array: &[u8], letter: u8, room: &mut [u8]) -> Found
     ensures result { result ≡ found_as (in_room (length room.old) (found_on part array.now letter)) }
@@ -54,9 +65,7 @@ pub fn find_letter(part: Part, array: &[u8], letter: u8, room: &mut [u8]) -> Fou
             length: 0,
         };
     }
-    let from = device::start(part, 3);
-    let to = from + device::length(part, 3);
-    store_find::find_in(&array[from..to], letter, room)
+    store_find::find_in(main_block(part, array), letter, room)
 }
 
 // The reading at x by the file under a letter: 1, 2, 44, 42, then as straight from that file (37, 40, 41).
@@ -72,9 +81,7 @@ pub fn read_letter(part: Part, array: &[u8], letter: u8, room: &mut [u8], x: i32
     if n != 0 {
         return ReadingAnswer::Refused(n);
     }
-    let from = device::start(part, 3);
-    let to = from + device::length(part, 3);
-    store_find::read_in(&array[from..to], letter, room, x)
+    store_find::read_in(main_block(part, array), letter, room, x)
 }
 
 // What a change runs: a load of block 3 and the verify after it.
@@ -126,10 +133,7 @@ fn drop_prepared(
     if n != 0 {
         return n;
     }
-    let part = d.part;
-    let from = device::start(part, 3);
-    let to = from + device::length(part, 3);
-    store_contents::drop_into(&array[from..to], letter, memory)
+    store_contents::drop_into(main_block(d.part, array), letter, memory)
 }
 
 // The number of an add; where it is 0, memory becomes the block's new contents.
@@ -152,10 +156,7 @@ fn add_prepared(
     if n != 0 {
         return n;
     }
-    let part = d.part;
-    let from = device::start(part, 3);
-    let to = from + device::length(part, 3);
-    store_contents::add_into(&array[from..to], file, letter, memory)
+    store_contents::add_into(main_block(d.part, array), file, letter, memory)
 }
 
 // The run of block 3 with memory as wanted, where the number is 0; else the refusal.

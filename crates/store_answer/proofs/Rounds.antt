@@ -1,15 +1,13 @@
 -- The walk that lists a store, round by round, and what the reader makes of a file in it.
-use mathlib.Core.Path.{◌≡◌, refl, sym, ap, ◌∙◌, subst}
+use mathlib.Core.Path.{◌≡◌, refl, sym, ap, ◌∙◌}
 use mathlib.Core.Bool.{Bool}
 use mathlib.Core.List.{List, ◌++◌}
-use Prim.Native.Nat.{ℕ, zero, suc, ◌+◌, ◌-◌, ◌*◌, ◌/◌, ◌<◌, ◌≤◌, min}
+use Prim.Native.Nat.{ℕ, suc, ◌+◌, ◌-◌, ◌/◌, ◌<◌, ◌≤◌}
 use native.Mathlib.Omega.{arith}
-use lib.ListN.{length, take, drop, length-append}
+use lib.ListN.{length, take, drop}
 use lib.Seq.{take_at}
 use Rattle.text.specs.Writing.{bytes, laid_at, behind}
 use Rattle.text.proofs.Laying.{Laid, laid_first, laid_more, laid_none, laid_length}
-use Rattle.file_codec.specs.File.{Outcome, refused, made, left_in, read_as}
-use Rattle.file_codec.specs.declared.ReadBack.TheVariants.{Gave, Refused}
 use Rattle.store_answer.specs.declared.Pace.{Pace}
 use Rattle.store_answer.specs.Listing.{pace_as, pace_on, payload_text, file_text, piece_of, pieces_from, pieces_of}
 
@@ -55,15 +53,3 @@ goes_end rows main xs now a n p at w g h =
     let l = laid_none now at g.inside in
     let q : pieces_from rows 0 main p w ≡ pieces_from rows (n - p) main p w = sym (ap (λ (m : ℕ). pieces_from rows m main p w) e) in
     (l.place ∙ ap (behind now at) q ∙ g.place, l.bytes ∙ ap (laid_at now at) q ∙ g.bytes)
-
--- a file that the reader refuses, and one that it gives back
-pub not_read : (o : Outcome) (n : ℕ) → read_as o ≡ Refused n → bytes "no table\n" ≡ file_text o
-not_read (refused m) n e = refl
-not_read (made p) n e = absurd (let z : ◌≡◌ {A = ℕ} 0 1 = cc in omega arith)
-
-pub gave : (room : List ℕ) (o : Outcome) (k : ℕ) (left : List ℕ) → read_as o ≡ Gave k → left ≡ left_in room o → payload_text (take (k - 0) (drop 0 left)) ≡ file_text o
-gave room (refused m) k left e l = absurd (let z : ◌≡◌ {A = ℕ} 0 1 = cc in omega arith)
-gave room (made p) k left e l =
-    let q : length p ≡ k = cc in
-    let n : k - 0 ≡ length p = omega arith in
-    ap (λ (z : ℕ). payload_text (take z left)) n ∙ ap (λ (z : List ℕ). payload_text (take (length p) z)) l ∙ ap payload_text (take_at p (drop (length p) room) (length p) refl)

@@ -3,6 +3,7 @@ use mathlib.Core.Path.{◌≡◌, refl, sym, ◌∙◌, ap}
 use mathlib.Core.Bool.{Bool, true, false, not, ◌&&◌, ◌||◌}
 use Prim.Native.Nat.{ℕ, zero, suc, ◌*◌, ◌<◌}
 use native.Mathlib.Omega.{arith}
+use lib.ListN.{get_or}
 use lib.Dec.{eqb, ltb}
 use borrow.Author.Tests.{eqb-false, leb-false}
 use Rattle.common.proofs.Choice.{if_false, or_left, or_right}
@@ -13,7 +14,7 @@ use Rattle.device.specs.Parts.{row_of, in_words, shape_of, length_in, length_of,
 use Rattle.units.specs.Units.{lent_in}
 use Rattle.store_claims.specs.Calls.{places_at}
 
-row_main : (n : ℕ) → 0 < n → n < 5 → (row_of n).l3 ≡ 512 * places_at n
+row_main : (n : ℕ) → 0 < n → n < 5 → get_or (row_of n).lengths 3 0 ≡ 512 * places_at n
 unfolding row_of
 row_main zero h l = absurd (omega arith)
 row_main (suc zero) h l = refl
@@ -39,7 +40,7 @@ below part e = leb-false 5 part.number e
 
 main_length : (part : Part) → part.word ≡ false → 0 < part.number → part.number < 5 → length_of part 3 ≡ 512 * places_at part.number
 unfolding length_of length_in shape_of
-main_length part w h l = ap (λ (s : Shape). s.l3) (if_false part.word (in_words (row_of part.number)) (row_of part.number) w) ∙ row_main part.number h l
+main_length part w h l = ap (λ (s : Shape). get_or s.lengths 3 0) (if_false part.word (in_words (row_of part.number)) (row_of part.number) w) ∙ row_main part.number h l
 
 pub plain : (part : Part) → unknown_part part ≡ false → is_large part ≡ false → Plain part
 unfolding unknown_part

@@ -11,8 +11,8 @@ use Rattle.std.specs.Prelude.{if◌then◌else◌}
 use Rattle.common.proofs.Choice.{if_true, if_false}
 use Rattle.common.specs.Numbers.{Row, row, given, numbered, NoRow}
 use Rattle.common.proofs.Numbers.{given_append, given_no_row, no_head, no_tail}
-use Rattle.file_codec.specs.File.{refused, made, outcome_by, limit, read_rows, length_wrong, blocks_in, blocks_rows, payload_of, reader_of, judged_as}
-use Rattle.file_codec.specs.declared.Judged.TheVariants.{Sound, Refused}
+use Rattle.file_codec.specs.File.{refused, made, limit, read_rows, length_wrong, blocks_in, blocks_rows, payload_of, reader_of}
+use Rattle.file_codec.proofs.Outcomes.{outcome_lets, outcome_refuses}
 use Rattle.file_codec.proofs.Tables.{blocks_append, blocks_numbered}
 use Rattle.store_places.specs.Store.{find_in, live_in, no_room, places_in, is_proper, drop_of, Proper}
 use Rattle.store_survey.specs.Survey.{reader_number, items_of, place_in, survey_of}
@@ -169,22 +169,10 @@ add_let main f ℓ room e = go (eqb room (length main)) refl (eqb (reader_number
 pub on : (t : Bool) → not t ≡ false → t ≡ true
 on t e = not-false t e
 
-pub judged_sound : (most : ℕ) (f : List ℕ) (ℓ k : ℕ) → judged_as (reader_of most f ℓ) ≡ Sound k → reader_number most ℓ f ≡ 0
+pub judged_sound : (most : ℕ) (f : List ℕ) (ℓ : ℕ) (bytes : List ℕ) → reader_of most f ℓ ≡ made bytes → reader_number most ℓ f ≡ 0
 unfolding reader_of
-judged_sound most f ℓ k e = go (reader_number most ℓ f) (eqb (reader_number most ℓ f) 0) refl e
-  where
-    go : (n : ℕ) (t : Bool) → eqb n 0 ≡ t → judged_as (outcome_by n (payload_of (blocks_in f) f)) ≡ Sound k → n ≡ 0
-    go n true q e = eqb-true n 0 q
-    go n false q e =
-        let v : Refused n ≡ Sound k = sym (ap judged_as (if_false (eqb n 0) (made (payload_of (blocks_in f) f)) (refused n) q)) ∙ e in
-        absurd (let z : ◌≡◌ {A = ℕ} 0 1 = cc in omega arith)
+judged_sound most f ℓ bytes e = (outcome_lets (given (read_rows most f ℓ [])) (payload_of (blocks_in f) f) bytes e).0
 
-pub judged_refused : (most : ℕ) (f : List ℕ) (ℓ m : ℕ) → judged_as (reader_of most f ℓ) ≡ Refused m → reader_number most ℓ f ≡ m
+pub judged_refused : (most : ℕ) (f : List ℕ) (ℓ m : ℕ) → reader_of most f ℓ ≡ refused m → reader_number most ℓ f ≡ m
 unfolding reader_of
-judged_refused most f ℓ m e = go (reader_number most ℓ f) (eqb (reader_number most ℓ f) 0) refl e
-  where
-    go : (n : ℕ) (t : Bool) → eqb n 0 ≡ t → judged_as (outcome_by n (payload_of (blocks_in f) f)) ≡ Refused m → n ≡ m
-    go n false q e = let v : Refused n ≡ Refused m = sym (ap judged_as (if_false (eqb n 0) (made (payload_of (blocks_in f) f)) (refused n) q)) ∙ e in cc
-    go n true q e =
-        let v : Sound (length (payload_of (blocks_in f) f)) ≡ Refused m = sym (ap judged_as (if_true (eqb n 0) (made (payload_of (blocks_in f) f)) (refused n) q)) ∙ e in
-        absurd (let z : ◌≡◌ {A = ℕ} 0 1 = cc in omega arith)
+judged_refused most f ℓ m e = outcome_refuses (given (read_rows most f ℓ [])) m (payload_of (blocks_in f) f) e

@@ -2,7 +2,7 @@
 // a refusal leaves memory as it was.
 #![tactic(auto)]
 
-ghost use Rattle.std.specs.Prelude.{◌≡◌, true, not, [], ◌∷◌, ◌+◌, ◌*◌, ◌-◌, ◌/◌, ◌<◌, ◌≤◌, length, take, eqb, ltb};
+ghost use Rattle.std.specs.Prelude.{◌≡◌, true, not, [], ◌∷◌, ◌+◌, ◌*◌, ◌-◌, ◌/◌, ◌≤◌, length, take, eqb, ltb};
 ghost use Rattle.common.specs.Lists.{overlaid};
 ghost use Rattle.common.specs.Numbers.{row, given};
 ghost use Rattle.file_codec.specs.File.{limit};
@@ -11,7 +11,6 @@ ghost use Rattle.store_survey.specs.Survey.{reader_number, survey_of};
 ghost use Rattle.store_contents.specs.Contents.{drop_in_number, add_in_number, memory_by};
 ghost use Rattle.store_contents.specs.Inner.{zeroed_from, live_bytes, span_of, goes_of, stay_of, behind_of};
 
-use file_codec::Judged;
 use store_survey::Survey;
 
 // 00H over the first byte of k places, the first of them at byte `from`.
@@ -19,29 +18,24 @@ fn zero_places(m: &mut [u8], from: usize, k: usize)
     requires { from + 512 * k ≤ length m.old }
     ensures { m.new ≡ zeroed_from k from m.old }
 {
-    let mut i = 0;
-    let mut to = from;
-    while i < k {
-        m[to] = 0;
-        to += 512;
-        i += 1;
+    for i in 0..k {
+        m[from + 512 * i] = 0;
     }
 }
 
 // The bytes of an item that begins so: a file has as many places as it says.
+#[tactic(auto, unfolding(crate::specs::Inner::span_of))]
 fn span(first: u8, count: u8) -> usize
     ensures { result ≡ span_of first count }
 {
-    if first == 0 {
-        return 512;
+    match first {
+        0 | 255 => 512,
+        _ => 512 * usize::from(count),
     }
-    if first == 255 {
-        return 512;
-    }
-    512 * common::wide(count)
 }
 
 // Whether an item that begins so is left behind in a slide: a dead place, a blank one, the file under the letter.
+#[tactic(auto, unfolding(crate::specs::Inner::goes_of))]
 fn goes(first: u8, letter: u8) -> bool
     ensures { result ≡ goes_of first letter }
 {
@@ -49,6 +43,7 @@ fn goes(first: u8, letter: u8) -> bool
 }
 
 // An item's bytes go to byte `to` of memory, where it stays; the byte behind them is given back.
+#[tactic(auto, using(crate::proofs::Overlays::left_behind, crate::proofs::Overlays::kept_there), unfolding(crate::specs::Inner::stay_of))]
 fn keep(item: &[u8], letter: u8, memory: &mut [u8], to: usize) -> usize
     requires { to + length item.now ≤ length memory.old }
     ensures result { result ≡ to + length (stay_of letter item.now) }
@@ -83,6 +78,7 @@ fn slide(main: &[u8], letter: u8, memory: &mut [u8]) -> usize
 }
 
 // A file at byte `at` of memory, and FFH behind it to the end.
+#[tactic(auto, using(crate::proofs::Overlays::put_laid, crate::proofs::Overlays::behind))]
 fn put_behind(memory: &mut [u8], at: usize, file: &[u8])
     requires { at + length file.now ≤ length memory.old }
     ensures { memory.new ≡ behind_of memory.old at file.now }
@@ -93,6 +89,7 @@ fn put_behind(memory: &mut [u8], at: usize, file: &[u8])
 }
 
 // The block with 00H over the first byte of k places, the first of them at byte `from`, into memory of its length.
+#[tactic(auto, using(common::proofs::Lists::copied_whole))]
 fn drop_there(main: &[u8], from: usize, k: usize, memory: &mut [u8])
     requires { (length memory.old ≡ length main.now) × (from + 512 * k ≤ length main.now) }
     ensures { memory.new ≡ zeroed_from k from main.now }
@@ -102,6 +99,7 @@ fn drop_there(main: &[u8], from: usize, k: usize, memory: &mut [u8])
 }
 
 // The same where the number is 0, else nothing.
+#[tactic(auto, using(crate::proofs::Numbers::memory_new, crate::proofs::Numbers::memory_was))]
 fn drop_by(number: u8, main: &[u8], from: usize, k: usize, memory: &mut [u8])
     requires { number ≡ 0 → (length memory.old ≡ length main.now) × (from + 512 * k ≤ length main.now) }
     ensures { memory.new ≡ memory_by number (zeroed_from k from main.now) memory.old }
@@ -139,10 +137,9 @@ pub fn drop_into(main: &[u8], letter: u8, memory: &mut [u8]) -> u8
 fn file_number(file: &[u8], asked: u8) -> u8
     ensures { result ≡ reader_number limit asked file.now }
 {
-    let judged = file_codec::judge(file, asked);
-    match judged {
-        Judged::Sound(_) => 0,
-        Judged::Refused(m) => m,
+    match file_codec::judge(file, asked) {
+        Ok(_) => 0,
+        Err(refusal) => refusal.number(),
     }
 }
 
@@ -151,8 +148,7 @@ fn no_room(places: usize, live: usize, replaced: usize, new: usize) -> bool
     requires { (replaced ≤ live) × (live ≤ places) × (places ≤ 36028797018963967) × (new ≤ 36028797018963967) }
     ensures { result ≡ ltb places (live - replaced + new) }
 {
-    let kept = live - replaced;
-    places < kept + new
+    places < live - replaced + new
 }
 
 // 44, then 43, by the survey for a file of so many blocks.
@@ -160,8 +156,7 @@ fn room_number(size: usize, s: Survey, new: usize) -> u8
     requires { (s.good ≡ true → (s.blocks ≤ s.live) × (s.live ≤ size / 512)) × (new ≤ 36028797018963967) }
     ensures { result ≡ given (row 44 (not s.good) ∷ row 43 (ltb (size / 512) (s.live - s.blocks + new)) ∷ []) }
 {
-    let good = s.good;
-    if !good {
+    if !s.good {
         return 44;
     }
     let places = size / 512;
@@ -191,6 +186,7 @@ fn add_number(main: &[u8], file: &[u8], letter: u8, s: Survey, room: usize) -> u
 }
 
 // The file laid over a run of blank places that begins at byte `at`, the old one dropped.
+#[tactic(auto, using(crate::proofs::Overlays::put_laid))]
 fn lay(main: &[u8], from: usize, k: usize, at: usize, file: &[u8], memory: &mut [u8])
     requires { (length memory.old ≡ length main.now) × (from + 512 * k ≤ length main.now)
         × (at + length file.now ≤ length main.now) }
@@ -211,8 +207,7 @@ fn put_new(number: u8, main: &[u8], file: &[u8], letter: u8, s: Survey, memory: 
     if number != 0 {
         return;
     }
-    let fits = s.fits;
-    if fits {
+    if s.fits {
         lay(main, 512 * s.place, s.blocks, 512 * s.start, file, memory);
         return;
     }

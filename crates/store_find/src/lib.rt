@@ -25,29 +25,15 @@ pub struct Found {
     pub length: usize,
 }
 
-// The first of two refusals that holds, or 0.
-fn first_of(x: u8, a: bool, y: u8, b: bool) -> u8
-    ensures { result ≡ given (row x a ∷ row y b ∷ []) }
-{
-    if a {
-        return x;
-    }
-    if b {
-        return y;
-    }
-    0
-}
-
 // 44, then 42, of a block of so many bytes by its survey.
 fn find_number(size: usize, s: Survey) -> u8
     ensures { result ≡ given (row 44 (not (eqb (size % 512) 0)) ∷ row 44 (not s.good) ∷ row 42 (eqb s.blocks 0) ∷ []) }
 {
-    let good = s.good;
-    let absent = s.blocks == 0;
-    if size % 512 != 0 {
-        return 44;
+    match (size % 512, s.good, s.blocks) {
+        (0, true, 0) => 42,
+        (0, true, _) => 0,
+        _ => 44,
     }
-    first_of(44, !good, 42, absent)
 }
 
 // Where the file under a letter stands.

@@ -9,12 +9,12 @@ use lib.Seq.{get_or-take}
 use lib.Dec.{eqb}
 use borrow.Author.Tests.{eqb-true, not-false}
 use Rattle.std.specs.Prelude.{if◌then◌else◌}
+use Rattle.std.specs.Result.{is_ok}
 use Rattle.common.specs.Numbers.{given}
 use Rattle.file_block.specs.Block.{is_letter, letter_wrong, place_wrong}
 use Rattle.file_block.proofs.Tables.{none_of_two, right}
-use Rattle.file_codec.specs.File.{read_rows, reader_of, refused, made, payload_of, blocks_in, blocks_rows, judged_as}
+use Rattle.file_codec.specs.File.{read_rows, reader_of, refused, made, payload_of, blocks_in, blocks_rows, answered_as}
 use Rattle.file_codec.proofs.Outcomes.{outcome_made, length_right, reader_lets}
-use Rattle.file_codec.specs.declared.Judged.TheVariants.{Sound, Refused}
 use Rattle.store_places.specs.Store.{Reader}
 use Rattle.store_survey.specs.Survey.{reader_number}
 
@@ -78,18 +78,10 @@ file_reader most =
     }
 
 -- ---- the judgement as the number
-pub sound_yes : (most ℓ : ℕ) (f : List ℕ) (k : ℕ) → judged_as (reader_of most f ℓ) ≡ Sound k → eqb (reader_number most ℓ f) 0 ≡ true
+pub sound_same : (most ℓ : ℕ) (f : List ℕ) → is_ok (answered_as (reader_of most f ℓ)) ≡ eqb (reader_number most ℓ f) 0
 unfolding reader_of
-sound_yes most ℓ f k e = go (given (read_rows most f ℓ [])) (payload_of (blocks_in f) f) (eqb (given (read_rows most f ℓ [])) 0) refl e
+sound_same most ℓ f = go (given (read_rows most f ℓ [])) (payload_of (blocks_in f) f) (eqb (given (read_rows most f ℓ [])) 0) refl
   where
-    go : (n : ℕ) (p : List ℕ) (t : Bool) → eqb n 0 ≡ t → judged_as (if eqb n 0 then made p else refused n) ≡ Sound k → eqb n 0 ≡ true
-    go n p true q e = q
-    go n p false q e = absurd (let w : Refused n ≡ Sound k = sym (ap (λ (x : Bool). judged_as (if x then made p else refused n)) q) ∙ e in let z : ◌≡◌ {A = ℕ} 0 1 = cc in omega arith)
-
-pub sound_not : (most ℓ : ℕ) (f : List ℕ) (k : ℕ) → judged_as (reader_of most f ℓ) ≡ Refused k → eqb (reader_number most ℓ f) 0 ≡ false
-unfolding reader_of
-sound_not most ℓ f k e = go (given (read_rows most f ℓ [])) (payload_of (blocks_in f) f) (eqb (given (read_rows most f ℓ [])) 0) refl e
-  where
-    go : (n : ℕ) (p : List ℕ) (t : Bool) → eqb n 0 ≡ t → judged_as (if eqb n 0 then made p else refused n) ≡ Refused k → eqb n 0 ≡ false
-    go n p false q e = q
-    go n p true q e = absurd (let w : Sound (length p) ≡ Refused k = sym (ap (λ (x : Bool). judged_as (if x then made p else refused n)) q) ∙ e in let z : ◌≡◌ {A = ℕ} 0 1 = cc in omega arith)
+    go : (n : ℕ) (p : List ℕ) (t : Bool) → eqb n 0 ≡ t → is_ok (answered_as (if eqb n 0 then made p else refused n)) ≡ eqb n 0
+    go n p true q = simp q
+    go n p false q = simp q

@@ -32,14 +32,11 @@ pub struct Survey {
 fn sound(file: &[u8], letter: u8) -> bool
     ensures { result ≡ sound_of letter file.now }
 {
-    let verdict = file_codec::judge(file, letter);
-    match verdict {
-        file_codec::Judged::Sound(size) => true,
-        file_codec::Judged::Refused(number) => false,
-    }
+    file_codec::judge(file, letter).is_ok()
 }
 
 // What begins with the first 512 of b: a dead place by its first byte alone, before anything else of it is read.
+#[tactic(auto, unfolding(crate::specs::Inner::spot_of))]
 fn spot_of(b: &[u8]) -> Spot
     requires { 512 ≤ length b.now }
     ensures { result ≡ spot_of b.now }
@@ -52,7 +49,7 @@ fn spot_of(b: &[u8]) -> Spot
         return Spot::Blank;
     }
     let k = common::nth(b, 2);
-    let size = 512 * common::wide(k);
+    let size = 512 * usize::from(k);
     if b.len() < size {
         return Spot::Junk;
     }
@@ -63,26 +60,14 @@ fn spot_of(b: &[u8]) -> Spot
 }
 
 // What begins at a place of a block; past its last whole place nothing does.
+#[tactic(auto, using(crate::proofs::Spots::spot_here, crate::proofs::Spots::spot_past))]
 pub fn spot_at(main: &[u8], place: usize) -> Spot
     ensures { result ≡ spot_in main.now place }
 {
-    let size = main.len();
-    if place < size / 512 {
-        let from = 512 * place;
-        return spot_of(&main[from..size]);
+    if place < main.len() / 512 {
+        return spot_of(&main[512 * place..]);
     }
     Spot::Junk
-}
-
-// One less, 0 at 0.
-fn less_one(k: u8) -> usize
-    ensures { (result ≡ k - 1) × (result < 256) }
-{
-    let n = common::wide(k);
-    if n == 0 {
-        return 0;
-    }
-    n - 1
 }
 
 // The places that a spot takes beyond its first.
@@ -90,156 +75,69 @@ fn more(spot: Spot) -> usize
     ensures { (result ≡ more_by spot) × (result < 256) }
 {
     match spot {
-        Spot::Blank => 0,
-        Spot::Dead => 0,
-        Spot::File(m, k) => less_one(k),
-        Spot::Junk => 0,
+        Spot::File(_, k) => usize::from(k).saturating_sub(1),
+        _ => 0,
     }
-}
-
-// Whether a letter is marked.
-fn marked(seen: &[u8], m: u8) -> bool
-    ensures { result ≡ not (eqb (get_or seen.now m 0) 0) }
-{
-    let x = common::nth(seen, common::wide(m));
-    let clear = x == 0;
-    !clear
 }
 
 // Whether the spot's letter was met before.
-fn twice(seen: &[u8], spot: Spot) -> bool
+fn twice(seen: &[u8; 256], spot: Spot) -> bool
     ensures { result ≡ twice_of seen.now spot }
 {
     match spot {
-        Spot::Blank => false,
-        Spot::Dead => false,
-        Spot::File(m, k) => marked(seen, m),
-        Spot::Junk => false,
-    }
-}
-
-// A letter is marked.
-fn put(seen: &mut [u8], m: u8)
-    ensures { seen.new ≡ set seen.old m 1 }
-{
-    let at = common::wide(m);
-    if at < seen.len() {
-        seen[at] = 1;
+        Spot::File(m, _) => seen[usize::from(m)] != 0,
+        _ => false,
     }
 }
 
 // The spot's letter is met.
-fn mark(seen: &mut [u8], spot: Spot)
+fn mark(seen: &mut [u8; 256], spot: Spot)
     ensures { seen.new ≡ seen_by seen.old spot }
 {
-    match spot {
-        Spot::Blank => {}
-        Spot::Dead => {}
-        Spot::File(m, k) => put(seen, m),
-        Spot::Junk => {}
-    }
-}
-
-// The survey past a dead place.
-fn dead_at(s: Survey) -> Survey
-    ensures { result ≡ dead_by s }
-{
-    Survey {
-        live: s.live,
-        place: s.place,
-        blocks: s.blocks,
-        run: 0,
-        start: s.start,
-        good: s.good,
-        fits: s.fits,
-    }
-}
-
-// Past a place that is none of the three.
-fn junk_at(s: Survey) -> Survey
-    ensures { result ≡ junk_by s }
-{
-    Survey {
-        live: s.live,
-        place: s.place,
-        blocks: s.blocks,
-        run: 0,
-        start: s.start,
-        good: false,
-        fits: s.fits,
+    if let Spot::File(m, _) = spot {
+        seen[usize::from(m)] = 1;
     }
 }
 
 // Past a blank place: the first run that reaches n is kept.
+#[tactic(auto, unfolding(crate::specs::Inner::blank_by))]
 fn blank_at(s: Survey, p: usize, n: usize) -> Survey
     requires { (s.run ≤ p) × (p < 72057594037927936) }
     ensures { result ≡ blank_by s p n }
 {
     let run = s.run + 1;
-    let fits = s.fits;
-    if fits {
-        return Survey {
-            live: s.live,
-            place: s.place,
-            blocks: s.blocks,
-            run: run,
-            start: s.start,
-            good: s.good,
-            fits: true,
-        };
-    }
-    if run == n {
-        return Survey {
-            live: s.live,
-            place: s.place,
-            blocks: s.blocks,
-            run: run,
-            start: p - s.run,
-            good: s.good,
-            fits: true,
-        };
+    if s.fits | (run != n) {
+        return Survey { run, ..s };
     }
     Survey {
-        live: s.live,
-        place: s.place,
-        blocks: s.blocks,
-        run: run,
-        start: s.start,
-        good: s.good,
-        fits: false,
+        run,
+        start: p - s.run,
+        fits: true,
+        ..s
     }
 }
 
 // Past a file: the first under the letter asked for is kept.
+#[tactic(auto, unfolding(crate::specs::Inner::file_by))]
 fn file_at(s: Survey, p: usize, m: u8, k: u8, again: bool, letter: u8) -> Survey
     requires { s.live < 72057594037927936 }
     ensures { result ≡ file_by s p m k again letter }
 {
-    let n = common::wide(k);
-    let good = s.good & !again;
-    let live = s.live + n;
-    let mine = m == letter;
-    let none = s.blocks == 0;
-    if mine & none {
+    let blocks = usize::from(k);
+    let met = Survey {
+        live: s.live + blocks,
+        run: 0,
+        good: s.good & !again,
+        ..s
+    };
+    if (m == letter) & (s.blocks == 0) {
         return Survey {
-            live: live,
             place: p,
-            blocks: n,
-            run: 0,
-            start: s.start,
-            good: good,
-            fits: s.fits,
+            blocks,
+            ..met
         };
     }
-    Survey {
-        live: live,
-        place: s.place,
-        blocks: s.blocks,
-        run: 0,
-        start: s.start,
-        good: good,
-        fits: s.fits,
-    }
+    met
 }
 
 // The survey one spot on.
@@ -249,14 +147,18 @@ fn note(s: Survey, spot: Spot, p: usize, again: bool, letter: u8, n: usize) -> S
 {
     match spot {
         Spot::Blank => blank_at(s, p, n),
-        Spot::Dead => dead_at(s),
+        Spot::Dead => Survey { run: 0, ..s },
         Spot::File(m, k) => file_at(s, p, m, k, again, letter),
-        Spot::Junk => junk_at(s),
+        Spot::Junk => Survey {
+            run: 0,
+            good: false,
+            ..s
+        },
     }
 }
 
 // The walk over all places, from the lowest on, no letter met before it.
-fn walk_places(main: &[u8], letter: u8, n: usize, seen: &mut [u8]) -> Survey
+fn walk_places(main: &[u8], letter: u8, n: usize, seen: &mut [u8; 256]) -> Survey
     requires { seen.old ≡ replicate 256 0 }
     ensures { result ≡ survey_of letter n main.now }
 {

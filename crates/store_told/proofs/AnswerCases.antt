@@ -14,8 +14,7 @@ use Rattle.device.specs.declared.Part.{Part}
 use Rattle.model_types.specs.declared.State.{State}
 use Rattle.model_states.specs.States.{fresh_state}
 use Rattle.file_codec.specs.File.{Outcome, refused, made, in_room, left_in}
-use Rattle.reading_text.specs.declared.NumberRead.{NumberRead}
-use Rattle.reading_text.specs.declared.NumberRead.TheVariants.{Whole, NoNumber}
+use Rattle.std.specs.Prelude.{ℤ, Option, Some, None}
 use Rattle.reading_text.specs.Numbers.{number_told}
 use Rattle.store_find.specs.declared.Found.{Found}
 use Rattle.store_find.specs.Finds.{found_as, read_by}
@@ -80,9 +79,9 @@ module _ (b : ℕ) (part : Part) (xs : List ℕ) (ℓ : ℕ) (volts room : List 
       found_inside (refused n) = zero-le
       found_inside (made bytes) = let l = length-append bytes (drop (length bytes) room) in omega (arith, l)
 
-      read_inside : (v : NumberRead) (o : Outcome) → inside (read_by_said v o room)
-      read_inside (Whole x) o = zero-le
-      read_inside NoNumber o = zero-le
+      read_inside : (v : Option ℤ) (o : Outcome) → inside (read_by_said v o room)
+      read_inside (Some x) o = zero-le
+      read_inside None o = zero-le
 
       by_word : (t u : Bool) → eqb b 76 ≡ t → eqb b 70 ≡ u → inside (asked b part xs ℓ volts room)
       by_word true u e f = subst inside (asked_list e) zero-le

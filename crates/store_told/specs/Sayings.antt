@@ -11,8 +11,7 @@ use Rattle.file_codec.specs.File.{Outcome, in_room, left_in}
 use Rattle.reading.specs.declared.ReadingAnswer.{ReadingAnswer}
 use Rattle.reading.specs.declared.ReadingAnswer.TheVariants.{Read, Refused}
 use Rattle.reading.specs.Readings.{answer_as}
-use Rattle.reading_text.specs.declared.NumberRead.{NumberRead}
-use Rattle.reading_text.specs.declared.NumberRead.TheVariants.{Whole, NoNumber}
+use Rattle.std.specs.Prelude.{ℤ, Option, Some, None}
 use Rattle.reading_text.specs.Numbers.{number_told}
 use Rattle.reading_answer.specs.Lines.{reading_line}
 use Rattle.verify_answer.specs.Answers.{numeral_of}
@@ -91,9 +90,9 @@ abbrev pub misasked : List ℕ → Asked
 misasked room = record { line = usage; stream = 2; filled = 0; memory = room }
 
 -- the microvolts are a number, or they are none
-abbrev pub read_by_said : NumberRead → Outcome → List ℕ → Asked
-read_by_said (Whole x) o room = read_asked (answer_as x o) o room
-read_by_said NoNumber o room = misasked room
+abbrev pub read_by_said : Option ℤ → Outcome → List ℕ → Asked
+read_by_said (Some x) o room = read_asked (answer_as x o) o room
+read_by_said None o room = misasked room
 
 -- the question that a word asks
 unfoldable pub asked : ℕ → Part → List ℕ → ℕ → List ℕ → List ℕ → Asked

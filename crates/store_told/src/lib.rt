@@ -19,7 +19,6 @@ use device::{Device, Part};
 use loader_run::Ran;
 use model_types::Pins;
 use reading::ReadingAnswer;
-use reading_text::NumberRead;
 
 // What a call gives back: the bytes of its line in front of out and the stream that it goes to, the bytes of a file in front of memory,
 // and whether the image was changed by a run that ended well.
@@ -177,10 +176,9 @@ fn read_asked(
         ≡ (read_by_said (number_told volts.now)
         (in_room (length memory.old) (read_by letter (found_on part image.now letter))) memory.old).memory }
 {
-    let number = reading_text::read_number(volts);
-    match number {
-        NumberRead::Whole(x) => as_said(put_read(out, part, image, letter, x, memory), 1, 0, false),
-        NumberRead::NoNumber => as_said(put_usage(out), 2, 0, false),
+    match reading_text::read_number(volts) {
+        Some(x) => as_said(put_read(out, part, image, letter, x, memory), 1, 0, false),
+        None => as_said(put_usage(out), 2, 0, false),
     }
 }
 

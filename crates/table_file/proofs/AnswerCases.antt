@@ -1,39 +1,37 @@
 -- What is said of a payload, of a text and of a call, way by way.
 use mathlib.Core.Path.{◌≡◌, refl, sym, ap, ◌∙◌}
 use mathlib.Core.Bool.{Bool, true, false}
-use mathlib.Core.List.{List}
+use mathlib.Core.List.{List, ◌++◌}
 use Prim.Native.Nat.{ℕ, ◌+◌, ◌-◌, ◌*◌, ◌≤◌, ◌<◌, min}
 use native.Mathlib.Omega.{arith}
 use lib.Dec.{eqb, ltb, leb}
 use lib.ListN.{length, get_or, take, drop, length-append, length-take}
 use lib.Seq.{take_all}
 use borrow.Author.Tests.{leb-true, leb-false}
-use Rattle.std.specs.Prelude.{if◌then◌else◌}
+use Rattle.std.specs.Prelude.{Result, Ok, Err, if◌then◌else◌}
 use Rattle.common.proofs.Choice.{if_true, if_false}
 use Rattle.text.specs.Writing.{laid_at, behind, told_on}
 use Rattle.text.proofs.Laying.{laid_whole}
-use Rattle.file_codec.specs.declared.Written.TheVariants.{Wrote, Refused}
-use Rattle.file_codec.specs.File.{limit, Outcome, refused, made, in_room, writer_of, left_in, written_as}
+use Rattle.file_codec.specs.File.{limit, Outcome, refused, in_room, writer_of, left_in, answered_told, told_by}
+use Rattle.file_codec.proofs.Told.{told_made}
 use Rattle.reading_table.specs.Table.{table_number}
-use Rattle.reading_text.specs.declared.TableRead.{TableRead}
-use Rattle.reading_text.specs.declared.TableRead.TheVariants.{Knots, WrongLine}
+use Rattle.reading_text.specs.declared.WrongLine.{WrongLine}
 use Rattle.reading_text.specs.Tables.{table_scanned, table_read}
 use Rattle.table_file.specs.Files.{longest, Said, complaint, refused_line, table_line, wrong_line, file_said, table_said, read_said, scanned_said, long_line, usage, Made, made_of}
 
--- a file that is written, and one that is refused
-pub wrote_said : (out : List ℕ) (o : Outcome) (k : ℕ) (left : List ℕ) → length left ≡ length out → written_as o ≡ Wrote k → left ≡ left_in out o
+-- a file that is written
+pub wrote_said : (out : List ℕ) (o : Outcome) (k : ℕ) (left : List ℕ) → length left ≡ length out → answered_told (Ok k) ≡ told_by o → left ≡ left_in out o
     → (record { used = k; stream = 1 } ≡ told_on (file_said o).stream out (file_said o).line) × (left ≡ laid_at out 0 (file_said o).line)
-wrote_said out (refused m) k left s e l = absurd (let z : ◌≡◌ {A = ℕ} 0 1 = cc in omega arith)
-wrote_said out (made file) k left s e l =
-    let q : length file ≡ k = cc in
-    let n : length left ≡ length file + length (drop (length file) out) = ap length l ∙ length-append file (drop (length file) out) in
+wrote_said out o k left s e l =
+    let t = told_made k o e in
+    let file = t.0 in
+    let w : left ≡ file ++ drop (length file) out = l ∙ ap (left_in out) t.1 in
+    let n : length left ≡ length file + length (drop (length file) out) = ap length w ∙ length-append file (drop (length file) out) in
     let h : length file ≤ length out = omega (arith, n, s) in
-    let b : k ≡ min (0 + length file) (length out) = omega (arith, q, h) in
-    ((λ i. record { used = b i; stream = 1 }), l ∙ sym (laid_whole out file h))
-
-pub refused_said : (out : List ℕ) (o : Outcome) (n : ℕ) (left : List ℕ) → written_as o ≡ Refused n → left ≡ left_in out o → (complaint (refused_line n) ≡ file_said o) × (left ≡ out)
-refused_said out (refused m) n left e l = let q : m ≡ n = cc in (ap (λ (z : ℕ). complaint (refused_line z)) (sym q), l)
-refused_said out (made file) n left e l = absurd (let z : ◌≡◌ {A = ℕ} 0 1 = cc in omega arith)
+    let b : k ≡ min (0 + length file) (length out) = omega (arith, t.2, h) in (
+      (λ i. record { used = b i; stream = 1 }) ∙ sym (ap (λ (z : Outcome). told_on (file_said z).stream out (file_said z).line) t.1),
+      w ∙ sym (laid_whole out file h) ∙ sym (ap (λ (z : Outcome). laid_at out 0 (file_said z).line) t.1),
+    )
 
 -- a complaint told
 pub complained : (out o : List ℕ) (line : List ℕ) (s : Said) (r : ℕ) → complaint line ≡ s → r ≡ behind out 0 line → o ≡ laid_at out 0 line
@@ -90,24 +88,24 @@ module _ (text letter payload : List ℕ) (room : ℕ) where
   made_wrong e = sym (if_false (eqb (length letter) 1) (if long then too_long else whole) misused e)
 
 -- told: a writer's refusal, and a line that is no knot
-pub refused_told : (out left o₂ : List ℕ) (o : Outcome) (n r : ℕ) → written_as o ≡ Refused n → left ≡ left_in out o → r ≡ behind left 0 (refused_line n) → o₂ ≡ laid_at left 0 (refused_line n)
+pub refused_told : (out left o₂ : List ℕ) (o : Outcome) (n r : ℕ) → o ≡ refused n → left ≡ left_in out o → r ≡ behind left 0 (refused_line n) → o₂ ≡ laid_at left 0 (refused_line n)
     → (record { used = r; stream = 2 } ≡ told_on (file_said o).stream out (file_said o).line) × (o₂ ≡ laid_at out 0 (file_said o).line)
 refused_told out left o₂ o n r e l p q =
-    let s = refused_said out o n left e l in
-    complained out o₂ (refused_line n) (file_said o) r s.0 (p ∙ ap (λ (z : List ℕ). behind z 0 (refused_line n)) s.1) (q ∙ ap (λ (z : List ℕ). laid_at z 0 (refused_line n)) s.1)
+    let w : left ≡ out = l ∙ ap (left_in out) e in
+    complained out o₂ (refused_line n) (file_said o) r (sym (ap file_said e)) (p ∙ ap (λ (z : List ℕ). behind z 0 (refused_line n)) w) (q ∙ ap (λ (z : List ℕ). laid_at z 0 (refused_line n)) w)
 
-pub line_told : (letter room n r : ℕ) (text payload out o₂ : List ℕ) → table_read (table_scanned text payload).scan ≡ WrongLine n → r ≡ behind out 0 (wrong_line n) → o₂ ≡ laid_at out 0 (wrong_line n)
+pub line_told : (letter room r : ℕ) (w : WrongLine) (text payload out o₂ : List ℕ) → table_read (table_scanned text payload).scan ≡ Err w → r ≡ behind out 0 (wrong_line w.line) → o₂ ≡ laid_at out 0 (wrong_line w.line)
     → (record { used = r; stream = 2 } ≡ told_on (scanned_said letter room (table_scanned text payload)).stream out (scanned_said letter room (table_scanned text payload)).line) × (o₂ ≡ laid_at out 0 (scanned_said letter room (table_scanned text payload)).line)
-line_told letter room n r text payload out o₂ e p q =
-    complained out o₂ (wrong_line n) (scanned_said letter room (table_scanned text payload)) r (sym (ap (λ (z : TableRead). read_said letter room z (table_scanned text payload).payload) e)) p q
+line_told letter room r w text payload out o₂ e p q =
+    complained out o₂ (wrong_line w.line) (scanned_said letter room (table_scanned text payload)) r (sym (ap (λ (z : Result ℕ WrongLine). read_said letter room z (table_scanned text payload).payload) e)) p q
 
 -- the knots of a text, in the payload that it left
-pub read_good : (letter room n k : ℕ) (text payload left : List ℕ) → k ≡ min (6 * n) (length left) → table_read (table_scanned text payload).scan ≡ Knots n → left ≡ (table_scanned text payload).payload
+pub read_good : (letter room n k : ℕ) (text payload left : List ℕ) → k ≡ min (6 * n) (length left) → table_read (table_scanned text payload).scan ≡ Ok n → left ≡ (table_scanned text payload).payload
     → table_said letter room (take (k - 0) (drop 0 left)) ≡ scanned_said letter room (table_scanned text payload)
 read_good letter room n k text payload left e f l =
     ap (table_said letter room) (front_of n k left e)
     ∙ ap (λ (z : List ℕ). table_said letter room (take (6 * n) z)) l
-    ∙ sym (ap (λ (z : TableRead). read_said letter room z (table_scanned text payload).payload) f)
+    ∙ sym (ap (λ (z : Result ℕ WrongLine). read_said letter room z (table_scanned text payload).payload) f)
 
 pub part_most : (k n : ℕ) (p : List ℕ) → k ≡ min (6 * n) (length p) → n ≤ 327680 → length (take (k - 0) (drop 0 p)) ≤ 1966080
 part_most k n p e h = let l = length-take (k - 0) (drop 0 p) in omega (arith, l, e, h)

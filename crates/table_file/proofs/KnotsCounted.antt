@@ -5,11 +5,10 @@ use Prim.Native.Nat.{ℕ, ◌+◌, ◌≤◌}
 use native.Mathlib.Omega.{arith}
 use lib.Dec.{eqb}
 use lib.ListN.{length}
-use Rattle.std.specs.Prelude.{if◌then◌else◌}
+use Rattle.std.specs.Prelude.{Result, Ok, Err, if◌then◌else◌}
 use Rattle.common.proofs.Choice.{if_ind}
 use Rattle.reading_text.specs.declared.Scan.{Scan}
-use Rattle.reading_text.specs.declared.TableRead.{TableRead}
-use Rattle.reading_text.specs.declared.TableRead.TheVariants.{Knots, WrongLine}
+use Rattle.reading_text.specs.declared.WrongLine.{WrongLine}
 use Rattle.reading_text.specs.Tables.{Scanned, gap_wrong, line_wrong, scan_start, stopped_scan, next_number, next_line, next_letter, at_gap, within_line, with_knot, end_line, scan_more, scan_all, table_scanned, is_begun, table_read}
 
 module _ (s : Scan) (out : List ℕ) where
@@ -44,27 +43,27 @@ unfolding table_scanned
 table_few text out = let h = all_few text (record { scan = scan_start; payload = out }) in omega (arith, h)
 
 -- what is counted
-abbrev counted : TableRead → ℕ
-counted (Knots n) = n
-counted (WrongLine n) = n
+abbrev counted : Result ℕ WrongLine → ℕ
+counted (Ok n) = n
+counted (Err w) = w.line
 
 counted_few : (s : Scan) → counted (table_read s) ≤ s.knots + 1
 unfolding table_read
 counted_few s =
-    if_ind (λ (r : TableRead). counted r ≤ s.knots + 1) s.wrong (WrongLine (s.knots + 1)) (if is_begun s then WrongLine (s.knots + 1) else Knots s.knots) (λ e. omega arith)
-    (λ e. if_ind (λ (r : TableRead). counted r ≤ s.knots + 1) (is_begun s) (WrongLine (s.knots + 1)) (Knots s.knots) (λ q. omega arith) (λ q. omega arith))
+    if_ind (λ (r : Result ℕ WrongLine). counted r ≤ s.knots + 1) s.wrong (Err (record { line = s.knots + 1 })) (if is_begun s then Err (record { line = s.knots + 1 }) else Ok s.knots) (λ e. omega arith)
+    (λ e. if_ind (λ (r : Result ℕ WrongLine). counted r ≤ s.knots + 1) (is_begun s) (Err (record { line = s.knots + 1 })) (Ok s.knots) (λ q. omega arith) (λ q. omega arith))
 
-module _ (text out : List ℕ) (n : ℕ) (h : length text ≤ 327679) where
-  pub knots_few : table_read (table_scanned text out).scan ≡ Knots n → n ≤ 327680
-  knots_few e =
+module _ (text out : List ℕ) (h : length text ≤ 327679) where
+  pub knots_few : (n : ℕ) → table_read (table_scanned text out).scan ≡ Ok n → n ≤ 327680
+  knots_few n e =
       let c : counted (table_read (table_scanned text out).scan) ≡ n = ap counted e in
       let f = counted_few (table_scanned text out).scan in
       let t = table_few text out in
       omega (arith, c, f, t, h)
 
-  pub line_few : table_read (table_scanned text out).scan ≡ WrongLine n → n ≤ 327680
-  line_few e =
-      let c : counted (table_read (table_scanned text out).scan) ≡ n = ap counted e in
+  pub line_few : (w : WrongLine) → table_read (table_scanned text out).scan ≡ Err w → w.line ≤ 327680
+  line_few w e =
+      let c : counted (table_read (table_scanned text out).scan) ≡ w.line = ap counted e in
       let f = counted_few (table_scanned text out).scan in
       let t = table_few text out in
       omega (arith, c, f, t, h)

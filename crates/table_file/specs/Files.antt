@@ -1,13 +1,12 @@
 -- The load file of a table in text, or why there is none.
-use Rattle.std.specs.Prelude.{List, ◌++◌, ℕ, ◌+◌, ◌*◌, eqb, ltb, length, get_or, take, if◌then◌else◌}
+use Rattle.std.specs.Prelude.{List, ◌++◌, ℕ, ◌+◌, ◌*◌, eqb, ltb, length, get_or, take, Result, Ok, Err, if◌then◌else◌}
 use Rattle.text.specs.Digits.{decimal_of}
 use Rattle.text.specs.Writing.{bytes}
 use Rattle.refusal_words.specs.Words.{refused_text}
 use Rattle.file_codec.specs.File.{limit, Outcome, refused, made, in_room, writer_of}
 use Rattle.reading_table.specs.Table.{table_number}
 use Rattle.reading_table.specs.Faults.{fault_of}
-use Rattle.reading_text.specs.declared.TableRead.{TableRead}
-use Rattle.reading_text.specs.declared.TableRead.TheVariants.{Knots, WrongLine}
+use Rattle.reading_text.specs.declared.WrongLine.{WrongLine}
 use Rattle.reading_text.specs.Tables.{Scanned, table_scanned, table_read}
 
 -- the bytes of the longest text that is read
@@ -50,9 +49,9 @@ table_said letter room p = if eqb (table_number p) 0 then file_said (in_room roo
     else complaint (table_line (table_number p) p)
 
 -- what a text says of a table, with the payload that it made
-abbrev pub read_said : ℕ → ℕ → TableRead → List ℕ → Said
-read_said letter room (Knots n) p = table_said letter room (take (6 * n) p)
-read_said letter room (WrongLine n) p = complaint (wrong_line n)
+abbrev pub read_said : ℕ → ℕ → Result ℕ WrongLine → List ℕ → Said
+read_said letter room (Ok n) p = table_said letter room (take (6 * n) p)
+read_said letter room (Err e) p = complaint (wrong_line e.line)
 
 -- .. of a text scanned
 abbrev pub scanned_said : ℕ → ℕ → Scanned → Said

@@ -8,8 +8,6 @@ ghost use Rattle.reading_text.specs.Tables.{table_scanned};
 ghost use Rattle.table_file.specs.Files.{longest, refused_line, fault_line, table_line, wrong_line, file_said, table_said, scanned_said};
 ghost use Rattle.table_file.specs.Files.{long_line, usage, made_of};
 
-use file_codec::Written;
-use reading_text::TableRead;
 use text::Told;
 
 // The bytes of the longest text that is read, and a room that shows a longer one.
@@ -71,16 +69,15 @@ fn put_file(letter: u8, payload: &[u8], out: &mut [u8]) -> Told
         ≡ laid_at out.old 0
         (file_said (in_room (length out.old) (writer_of limit letter payload.now))).line }
 {
-    let written = file_writer::write(letter, payload, out);
-    match written {
-        Written::Wrote(n) => Told { used: n, stream: 1 },
-        Written::Refused(n) => {
-            let used = put_refusal(out, n);
-            Told {
-                used: used,
-                stream: 2,
-            }
-        }
+    match file_writer::write(letter, payload, out) {
+        Ok(size) => Told {
+            used: size,
+            stream: 1,
+        },
+        Err(refusal) => Told {
+            used: put_refusal(out, refusal.number()),
+            stream: 2,
+        },
     }
 }
 
@@ -116,14 +113,13 @@ fn put_read(letter: u8, text: &[u8], payload: &mut [u8], out: &mut [u8]) -> Told
         (scanned_said letter (length out.old) (table_scanned text.now payload.old)).line }
     ensures payload_left { payload.new ≡ (table_scanned text.now payload.old).payload }
 {
-    let got = reading_text::read_table(text, payload);
-    match got {
-        TableRead::Knots(n) => {
+    match reading_text::read_table(text, payload) {
+        Ok(n) => {
             let size = common::least(6 * n, payload.len());
             put_table(letter, &payload[0..size], out)
         }
-        TableRead::WrongLine(n) => {
-            let used = put_wrong_line(out, n);
+        Err(e) => {
+            let used = put_wrong_line(out, e.line);
             Told {
                 used: used,
                 stream: 2,

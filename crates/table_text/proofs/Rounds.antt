@@ -10,8 +10,7 @@ use lib.ListN.{length, get_or, take, drop, length-append}
 use lib.Seq.{take_at}
 use Rattle.common.proofs.Choice.{if_true, if_false}
 use Rattle.text.specs.Writing.{laid_at, behind, told_on}
-use Rattle.file_codec.specs.declared.ReadBack.TheVariants.{Gave, Refused}
-use Rattle.file_codec.specs.File.{limit, Outcome, refused, made, in_room, left_in, reader_of, read_as}
+use Rattle.file_codec.specs.File.{limit, Outcome, in_room, left_in, reader_of}
 use Rattle.text.proofs.Laying.{Laid, laid_first, laid_more, laid_none, laid_length}
 use Rattle.reading_table.specs.Table.{knots, volts_of, tenths_of, table_number}
 use Rattle.reading_print.specs.Texts.{knot_text}
@@ -73,25 +72,6 @@ good_table p e = sym (if_true (eqb (table_number p) 0) (record { line = table_te
 pub bad_table : (p : List ℕ) (n : ℕ) → n ≡ table_number p → eqb n 0 ≡ false → refused_said n ≡ table_said p
 unfolding table_said
 bad_table p n e f = ap refused_said e ∙ sym (if_false (eqb (table_number p) 0) (record { line = table_text p; stream = 1 }) (refused_said (table_number p)) (ap (λ (z : ℕ). eqb z 0) (sym e) ∙ f))
-
--- a file that the reader refuses, and one that it gives back
-pub not_read : (o : Outcome) (n : ℕ) → read_as o ≡ Refused n → refused_said n ≡ file_said o
-not_read (refused m) n e = let q : m ≡ n = cc in ap refused_said (sym q)
-not_read (made p) n e = absurd (let z : ◌≡◌ {A = ℕ} 0 1 = cc in omega arith)
-
-pub gave_fits : (room : List ℕ) (o : Outcome) (k : ℕ) (left : List ℕ) → read_as o ≡ Gave k → left ≡ left_in room o → k ≤ length left
-gave_fits room (refused m) k left e l = absurd (let z : ◌≡◌ {A = ℕ} 0 1 = cc in omega arith)
-gave_fits room (made p) k left e l =
-    let q : length p ≡ k = cc in
-    let n : length left ≡ length p + length (drop (length p) room) = ap length l ∙ length-append p (drop (length p) room) in
-    omega arith
-
-pub gave : (room : List ℕ) (o : Outcome) (k : ℕ) (left : List ℕ) → read_as o ≡ Gave k → left ≡ left_in room o → table_said (take (k - 0) (drop 0 left)) ≡ file_said o
-gave room (refused m) k left e l = absurd (let z : ◌≡◌ {A = ℕ} 0 1 = cc in omega arith)
-gave room (made p) k left e l =
-    let q : length p ≡ k = cc in
-    let n : k - 0 ≡ length p = omega arith in
-    ap (λ (z : ℕ). table_said (take z left)) n ∙ ap (λ (z : List ℕ). table_said (take (length p) z)) l ∙ ap table_said (take_at p (drop (length p) room) (length p) refl)
 
 -- a call: good, and with a letter that is none
 module _ (file letter room : List ℕ) where

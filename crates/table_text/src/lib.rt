@@ -7,7 +7,6 @@ ghost use Rattle.file_codec.specs.File.{limit, in_room, left_in, reader_of};
 ghost use Rattle.table_text.specs.Printed.{table_text};
 ghost use Rattle.table_text.specs.Shown.{refused_said, table_said, file_said, usage, shown_of};
 
-use file_codec::ReadBack;
 use text::Told;
 
 // All knots of a payload, a line each, in the front of out; the place behind them.
@@ -17,12 +16,10 @@ fn put_knots(out: &mut [u8], payload: &[u8]) -> usize
 {
     let n = payload.len() / 6;
     let mut at = 0;
-    let mut i = 0;
-    while i < n {
+    for i in 0..n {
         let volts = reading_table::volts(payload, i);
         let tenths = reading_table::tenths(payload, i);
         at = reading_print::put_knot(out, at, volts, tenths);
-        i += 1;
     }
     at
 }
@@ -67,16 +64,12 @@ fn put_file(file: &[u8], letter: u8, room: &mut [u8], out: &mut [u8]) -> Told
     ensures room_left { room.new
         ≡ left_in room.old (in_room (length room.old) (reader_of limit file.now letter)) }
 {
-    let got = file_codec::read(file, letter, room);
-    match got {
-        ReadBack::Refused(n) => {
-            let used = put_refusal(out, n);
-            Told {
-                used: used,
-                stream: 2,
-            }
-        }
-        ReadBack::Gave(size) => put_table(&room[0..size], out),
+    match file_codec::read(file, letter, room) {
+        Ok(size) => put_table(&room[0..size], out),
+        Err(refusal) => Told {
+            used: put_refusal(out, refusal.number()),
+            stream: 2,
+        },
     }
 }
 

@@ -8,7 +8,6 @@ use lib.Dec.{leb}
 use lib.ListN.{length, take, drop, length-append, length-take, length-drop, drop_of_length-le, take-append-drop}
 use lib.Seq.{take_all, take-nil, drop-nil, drop-drop, take_at, drop_at, length-take-le, take-append-le, take-append-add}
 use borrow.Author.Tests.{leb-true, leb-false}
-use borrow.Rule.Slice.PartMut.{put_mid, mid_of}
 use Rattle.common.specs.Lists.{copied}
 use Rattle.text.specs.Writing.{laid_at, behind, Used}
 
@@ -91,22 +90,6 @@ laid_none xs a h = record { place = (let r : a ≡ min (a + 0) (length xs) = ome
   where
     sym-take : (ys : List ℕ) (k : ℕ) → laid_at ys k [] ≡ ys
     sym-take ys k = ap (λ (z : List ℕ). take k ys ++ (z ++ drop k ys)) (take-nil (length (drop k ys))) ∙ take-append-drop k ys
-
--- a part of a slice that ends with it, copied over
-pub part_laid : (xs ys o : List ℕ) (at from : ℕ) → from ≡ min at (length xs) → o ≡ copied (mid_of from (length xs - from) xs) ys → put_mid from (length xs - from) xs o ≡ laid_at xs at ys
-part_laid xs ys o at from e q =
-    let dl = length-drop from xs in
-    let m : mid_of from (length xs - from) xs ≡ drop from xs = take_all (length xs - from) (drop from xs) (omega (arith, dl)) in
-    let b : drop (length xs - from) (drop from xs) ≡ [] = drop_of_length-le (drop from xs) {i = length xs - from} (omega (arith, dl)) in
-    ap₂ (λ (u v : List ℕ). take from xs ++ (u ++ v)) (q ∙ ap (λ (z : List ℕ). copied z ys) m) b
-    ∙ ap (λ (z : List ℕ). take from xs ++ z) (append-nil (copied (drop from xs) ys))
-    ∙ go (leb at (length xs)) refl
-  where
-    go : (b : Bool) → leb at (length xs) ≡ b → laid_at xs from ys ≡ laid_at xs at ys
-    go true f = let h : at ≤ length xs = leb-true _ _ f in ap (λ (n : ℕ). laid_at xs n ys) (let s : from ≡ at = omega (arith, e, h) in s)
-    go false f =
-        let h : length xs < at = leb-false _ _ f in
-        laid_end xs from ys (omega (arith, e, h)) ∙ sym (laid_end xs at ys (omega (arith, h)))
 
 -- so many bytes of a slice
 pub used : (r : ℕ) (xs : List ℕ) → r ≤ length xs → Used r xs

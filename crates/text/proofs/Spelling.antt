@@ -1,23 +1,14 @@
 -- Laws of numbers spelled: digit by digit, how long they are, and their last digits.
 use mathlib.Core.Path.{◌≡◌, refl, sym, ap, ◌∙◌}
 use mathlib.Core.List.{List, [], ◌∷◌, ◌++◌, append_assoc}
-use Prim.Native.Nat.{ℕ, zero, suc, ◌+◌, ◌-◌, ◌/◌, ◌%◌, ◌≤◌, ◌<◌}
+use Prim.Native.Nat.{ℕ, zero, suc, ◌+◌, ◌-◌, ◌*◌, ◌/◌, ◌%◌, ◌^◌, ◌≤◌, ◌<◌}
 use native.Mathlib.Omega.{arith}
 use lib.Dec.{ltb}
-use lib.ListN.{length, take, drop, set, length-set}
-use lib.Seq.{drop-cons, drop-set-lt, get_or-set_same, drop_at, take_all}
+use Rattle.std.proofs.lemmas.Bool.Decides.{nat_tests}
+use lib.ListN.{length, take, drop}
+use lib.Seq.{drop_at, take_all}
 use Rattle.common.proofs.Choice.{if_ind}
 use Rattle.text.specs.Digits.{digit_letter, spelled, width_of, decimal_of}
-
--- one digit fewer to spell: it is written before what follows
-pub spelled_back :
-    (base x : ℕ) (out : List ℕ) (i b : ℕ) → 0 < i → i ≤ length out → b ≡ digit_letter (x % base) → spelled base (i - 1) (x / base) (drop (i - 1) (set out (i - 1) b)) ≡ spelled base i x (drop i out)
-spelled_back base x out i b h k e = go (i - 1) (omega arith)
-  where
-    go : (j : ℕ) → i ≡ suc j → spelled base j (x / base) (drop j (set out j b)) ≡ spelled base i x (drop i out)
-    go j p =
-        let l : j < length out = omega arith in
-        rw (p, drop-cons (set out j b) j 0 (rw (length-set out j b) l), get_or-set_same out j b 0 l, drop-set-lt (suc j) out j b (omega arith), e) refl
 
 -- lengths
 pub spelled_length : (base w n : ℕ) (after : List ℕ) → length (spelled base w n after) ≡ w + length after
@@ -74,3 +65,18 @@ decimal_last n from e =
     let d : drop from (spelled 10 10 n []) ≡ spelled 10 (width_of n) n [] = ap (λ (z : ℕ). drop from (spelled 10 z n [])) s ∙ spelled_tail 10 from (width_of n) n [] in
     let l : length (spelled 10 (width_of n) n []) ≤ 10 - from = omega (arith, spelled_length 10 (width_of n) n [], t) in
     ap (take (10 - from)) d ∙ take_all (10 - from) (spelled 10 (width_of n) n []) l
+
+-- a number of k digits behind its first
+pub width_is : (n k : ℕ) → 10 ^ k ≤ n → n < 10 * 10 ^ k → k < 10 → width_of n ≡ k + 1
+unfolding width_of
+width_is n zero p q r = grind (arith, nat_tests)
+width_is n (suc zero) p q r = grind (arith, nat_tests)
+width_is n (suc (suc zero)) p q r = grind (arith, nat_tests)
+width_is n (suc (suc (suc zero))) p q r = grind (arith, nat_tests)
+width_is n (suc (suc (suc (suc zero)))) p q r = grind (arith, nat_tests)
+width_is n (suc (suc (suc (suc (suc zero))))) p q r = grind (arith, nat_tests)
+width_is n (suc (suc (suc (suc (suc (suc zero)))))) p q r = grind (arith, nat_tests)
+width_is n (suc (suc (suc (suc (suc (suc (suc zero))))))) p q r = grind (arith, nat_tests)
+width_is n (suc (suc (suc (suc (suc (suc (suc (suc zero)))))))) p q r = grind (arith, nat_tests)
+width_is n (suc (suc (suc (suc (suc (suc (suc (suc (suc zero))))))))) p q r = grind (arith, nat_tests)
+width_is n (suc (suc (suc (suc (suc (suc (suc (suc (suc (suc k)))))))))) p q r = absurd (omega arith)

@@ -16,14 +16,14 @@ pub struct Told {
 pub fn is_digit(b: u8) -> bool
     ensures { result ≡ is_digit b }
 {
-    (b'0' <= b) & (b <= b'9')
+    b.is_ascii_digit()
 }
 
 // A hexadecimal digit, capitals only.
 pub fn is_hex(b: u8) -> bool
     ensures { result ≡ is_hex b }
 {
-    is_digit(b) | (b'A' <= b) & (b <= b'F')
+    is_digit(b) || (b'A'..=b'F').contains(&b)
 }
 
 // What a decimal digit counts.
@@ -64,11 +64,9 @@ fn spell(out: &mut [u8], base: u64, x: u64)
     ensures { out.new ≡ spelled base (length out.old) x [] }
 {
     let mut rest = x;
-    let mut i = out.len();
-    while 0 < i {
-        i -= 1;
+    for i in (0..out.len()).rev() {
         out[i] = letter((rest % base) as u8);
-        rest = rest / base;
+        rest /= base;
     }
 }
 
@@ -112,34 +110,7 @@ pub fn put_text(out: &mut [u8], at: usize, text: &[u8]) -> usize
 fn width(n: u32) -> usize
     ensures { result ≡ width_of n }
 {
-    if n < 10 {
-        return 1;
-    }
-    if n < 100 {
-        return 2;
-    }
-    if n < 1000 {
-        return 3;
-    }
-    if n < 10000 {
-        return 4;
-    }
-    if n < 100000 {
-        return 5;
-    }
-    if n < 1000000 {
-        return 6;
-    }
-    if n < 10000000 {
-        return 7;
-    }
-    if n < 100000000 {
-        return 8;
-    }
-    if n < 1000000000 {
-        return 9;
-    }
-    10
+    n.checked_ilog10().map_or(1, |k| k as usize + 1)
 }
 
 // A number in decimal from a place on, without zeros in front; the place behind it.

@@ -6,14 +6,14 @@ use mathlib.Core.Logic.{◌↔◌}
 use Prim.Native.Nat.{ℕ, ◌<◌}
 use lib.ListN.{length, get_or}
 use Rattle.model_types.specs.declared.Cycle.{Cycle}
-use Rattle.trace_lines.specs.declared.LineRead.TheVariants.{NotALine, Stated}
+use Rattle.std.specs.Prelude.{Some, None}
 use Rattle.trace_lines.specs.Lines.{Place, is_at, fits, is_line, cycle_stated, read_line, line_of, Fits}
 use Rattle.trace_lines.proofs.Places as places
 use Rattle.trace_lines.proofs.Forms as forms
 
 -- Exactly the lines of the documented form are read: a list is read as a cycle exactly where the cycle fits a line and the
 -- list is what is printed of it. (Both halves: what is printed is read back, and what is read prints as itself.)
-pub read_exactly : (xs : List ℕ) (c : Cycle) → (read_line xs ≡ Stated c) ↔ (Fits c × (line_of c ≡ xs))
+pub read_exactly : (xs : List ℕ) (c : Cycle) → (read_line xs ≡ Some c) ↔ (Fits c × (line_of c ≡ xs))
 read_exactly = forms.read_exactly
 
 -- Each is read in one way: two cycles that fit and print alike are one.
@@ -21,11 +21,11 @@ pub read_once : (c d : Cycle) → Fits c → Fits d → line_of c ≡ line_of d 
 read_once = forms.read_once
 
 -- What is not read is no line: no cycle that fits prints as it.
-pub not_read : (xs : List ℕ) → (read_line xs ≡ NotALine) ↔ ((c : Cycle) → Fits c → line_of c ≡ xs → ⊥)
+pub not_read : (xs : List ℕ) → (read_line xs ≡ None) ↔ ((c : Cycle) → Fits c → line_of c ≡ xs → ⊥)
 not_read = forms.not_read
 
 -- The test and the reader agree, and a line has 20 bytes.
-pub line_read : (xs : List ℕ) → is_line xs ≡ true → read_line xs ≡ Stated (cycle_stated xs)
+pub line_read : (xs : List ℕ) → is_line xs ≡ true → read_line xs ≡ Some (cycle_stated xs)
 line_read = forms.line_read
 
 pub line_length : (xs : List ℕ) → is_line xs ≡ true → length xs ≡ 20

@@ -15,7 +15,7 @@ use Rattle.text.specs.Digits.{is_digit, is_hex, digit_of, hex_of, digit_letter}
 use Rattle.model_types.specs.declared.Kind.{Kind}
 use Rattle.model_types.specs.declared.Kind.TheVariants.{Read, Write, Idle}
 use Rattle.model_types.specs.declared.Cycle.{Cycle}
-use Rattle.trace_lines.specs.declared.LineRead.TheVariants.{NotALine, Stated}
+use Rattle.std.specs.Prelude.{Some, None}
 use Rattle.trace_lines.specs.Lines.{is_kind, is_at, fits, newline, line_form, is_line, kind_of, five_digits, four_hex, two_hex, cycle_stated, read_line, letter_for, decimal_digit, line_of, Fits}
 use Rattle.trace_lines.proofs.Places.{both, form_length, form_at}
 
@@ -203,10 +203,10 @@ printed_cycle c f = λ i. record {
   «data» = two_back c.data f.4 i;
 }
 
-pub read_back : (c : Cycle) → Fits c → read_line (line_of c) ≡ Stated c
+pub read_back : (c : Cycle) → Fits c → read_line (line_of c) ≡ Some c
 unfolding read_line
 read_back c f =
-    if_true (is_line (line_of c)) (Stated (cycle_stated (line_of c))) NotALine (printed_good c f) ∙ ap (λ (x : Cycle). Stated x) (printed_cycle c f)
+    if_true (is_line (line_of c)) (Some (cycle_stated (line_of c))) None (printed_good c f) ∙ ap (λ (x : Cycle). Some x) (printed_cycle c f)
 
 -- what a line states fits, and prints as the line
 five_small : (a b c d e : ℕ) → is_digit a ≡ true → is_digit b ≡ true → is_digit c ≡ true → is_digit d ≡ true → is_digit e ≡ true → five_digits a b c d e < 100000
@@ -318,47 +318,47 @@ line_again : (xs : List ℕ) → is_line xs ≡ true → line_of (cycle_stated x
 line_again xs e = line_spelled xs e ∙ spelled_rest 20 0 xs (let z : 0 + 20 ≡ length xs = sym (line_length xs e) in z)
 
 -- a line that is read is of the form
-pub read_good : (xs : List ℕ) (c : Cycle) → read_line xs ≡ Stated c → (is_line xs ≡ true) × (cycle_stated xs ≡ c)
+pub read_good : (xs : List ℕ) (c : Cycle) → read_line xs ≡ Some c → (is_line xs ≡ true) × (cycle_stated xs ≡ c)
 unfolding read_line
 read_good xs c q = go (is_line xs) refl
   where
     go : (b : Bool) → is_line xs ≡ b → (is_line xs ≡ true) × (cycle_stated xs ≡ c)
-    go true e = let z : Stated (cycle_stated xs) ≡ Stated c = sym (if_true (is_line xs) (Stated (cycle_stated xs)) NotALine e) ∙ q in (e, cc)
+    go true e = let z : Some (cycle_stated xs) ≡ Some c = sym (if_true (is_line xs) (Some (cycle_stated xs)) None e) ∙ q in (e, cc)
     go false e =
-        let z : NotALine ≡ Stated c = sym (if_false (is_line xs) (Stated (cycle_stated xs)) NotALine e) ∙ q in
+        let z : None ≡ Some c = sym (if_false (is_line xs) (Some (cycle_stated xs)) None e) ∙ q in
         absurd (let w : ◌≡◌ {A = ℕ} 0 1 = cc in omega arith)
 
-pub read_prints : (xs : List ℕ) (c : Cycle) → read_line xs ≡ Stated c → Fits c × (line_of c ≡ xs)
+pub read_prints : (xs : List ℕ) (c : Cycle) → read_line xs ≡ Some c → Fits c × (line_of c ≡ xs)
 read_prints xs c q =
     let k = read_good xs c q in
     (subst (λ (x : Cycle). Fits x) k.1 (line_fits xs k.0), subst (λ (x : Cycle). line_of x ≡ xs) k.1 (line_again xs k.0))
 
-pub read_exactly : (xs : List ℕ) (c : Cycle) → (read_line xs ≡ Stated c) ↔ (Fits c × (line_of c ≡ xs))
+pub read_exactly : (xs : List ℕ) (c : Cycle) → (read_line xs ≡ Some c) ↔ (Fits c × (line_of c ≡ xs))
 read_exactly xs c = (
   read_prints xs c,
-  λ (f : Fits c × (line_of c ≡ xs)). subst (λ (l : List ℕ). read_line l ≡ Stated c) f.1 (read_back c f.0),
+  λ (f : Fits c × (line_of c ≡ xs)). subst (λ (l : List ℕ). read_line l ≡ Some c) f.1 (read_back c f.0),
 )
 
 pub read_once : (c d : Cycle) → Fits c → Fits d → line_of c ≡ line_of d → c ≡ d
 read_once c d f g e =
-    let z : Stated c ≡ Stated d = sym (read_back c f) ∙ ap (λ (l : List ℕ). read_line l) e ∙ read_back d g in cc
+    let z : Some c ≡ Some d = sym (read_back c f) ∙ ap (λ (l : List ℕ). read_line l) e ∙ read_back d g in cc
 
-pub line_read : (xs : List ℕ) → is_line xs ≡ true → read_line xs ≡ Stated (cycle_stated xs)
+pub line_read : (xs : List ℕ) → is_line xs ≡ true → read_line xs ≡ Some (cycle_stated xs)
 unfolding read_line
-line_read xs e = if_true (is_line xs) (Stated (cycle_stated xs)) NotALine e
+line_read xs e = if_true (is_line xs) (Some (cycle_stated xs)) None e
 
-unread : (xs : List ℕ) → is_line xs ≡ false → read_line xs ≡ NotALine
+unread : (xs : List ℕ) → is_line xs ≡ false → read_line xs ≡ None
 unfolding read_line
-unread xs e = if_false (is_line xs) (Stated (cycle_stated xs)) NotALine e
+unread xs e = if_false (is_line xs) (Some (cycle_stated xs)) None e
 
-pub not_read : (xs : List ℕ) → (read_line xs ≡ NotALine) ↔ ((c : Cycle) → Fits c → line_of c ≡ xs → ⊥)
+pub not_read : (xs : List ℕ) → (read_line xs ≡ None) ↔ ((c : Cycle) → Fits c → line_of c ≡ xs → ⊥)
 not_read xs = (
-  λ (e : read_line xs ≡ NotALine) (c : Cycle) (f : Fits c) (q : line_of c ≡ xs).
-      let z : Stated c ≡ NotALine = sym (read_back c f) ∙ ap (λ (l : List ℕ). read_line l) q ∙ e in
+  λ (e : read_line xs ≡ None) (c : Cycle) (f : Fits c) (q : line_of c ≡ xs).
+      let z : Some c ≡ None = sym (read_back c f) ∙ ap (λ (l : List ℕ). read_line l) q ∙ e in
       let w : ◌≡◌ {A = ℕ} 0 1 = cc in omega arith,
   λ (h : (c : Cycle) → Fits c → line_of c ≡ xs → ⊥). go h (is_line xs) refl,
 )
   where
-    go : ((c : Cycle) → Fits c → line_of c ≡ xs → ⊥) → (b : Bool) → is_line xs ≡ b → read_line xs ≡ NotALine
+    go : ((c : Cycle) → Fits c → line_of c ≡ xs → ⊥) → (b : Bool) → is_line xs ≡ b → read_line xs ≡ None
     go h true e = let k = read_prints xs (cycle_stated xs) (line_read xs e) in absurd (h (cycle_stated xs) k.0 k.1)
     go h false e = unread xs e

@@ -6,7 +6,7 @@ use Prim.Native.Nat.{ℕ}
 use Rattle.common.specs.Choice.{Unique}
 use Rattle.common.proofs.Choice.{only}
 use Rattle.model_types.specs.declared.Cycle.{Cycle}
-use Rattle.trace_lines.specs.declared.LineRead.{LineRead}
+use Rattle.std.specs.Prelude.{Option}
 use Rattle.trace_lines.specs.Lines.{is_line, cycle_stated, read_line, told_in}
 
 pub is_line_unique : (xs : List ℕ) → Unique (λ (r : Bool). r ≡ is_line xs)
@@ -15,7 +15,7 @@ is_line_unique xs = only (is_line xs)
 pub cycle_in_unique : (xs : List ℕ) → Unique (λ (r : Cycle). r ≡ cycle_stated xs)
 cycle_in_unique xs = only (cycle_stated xs)
 
-pub read_line_unique : (xs : List ℕ) → Unique (λ (r : LineRead). r ≡ read_line xs)
+pub read_line_unique : (xs : List ℕ) → Unique (λ (r : Option Cycle). r ≡ read_line xs)
 read_line_unique xs = only (read_line xs)
 
 pub read_line_told_unique : (xs : List ℕ) → Unique (λ (told : List Cycle). told ≡ told_in xs)

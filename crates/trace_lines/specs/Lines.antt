@@ -1,11 +1,10 @@
 -- The lines of a trace: their form, the cycle that one states, and how a cycle is printed.
-use Rattle.std.specs.Prelude.{◌≡◌, Bool, true, false, ◌&&◌, ◌||◌, List, [], ◌∷◌, ℕ, ◌+◌, ◌*◌, ◌/◌, ◌%◌, ◌<◌, eqb, get_or, if◌then◌else◌}
+use Rattle.std.specs.Prelude.{◌≡◌, Bool, true, false, ◌&&◌, ◌||◌, List, [], ◌∷◌, ℕ}
+use Rattle.std.specs.Prelude.{◌+◌, ◌*◌, ◌/◌, ◌%◌, ◌<◌, eqb, get_or, if◌then◌else◌, Option, None, Some}
 use Rattle.text.specs.Digits.{is_digit, is_hex, digit_of, hex_of, digit_letter}
 use Rattle.model_types.specs.declared.Kind.{Kind}
 use Rattle.model_types.specs.declared.Kind.TheVariants.{Read, Write, Idle}
 use Rattle.model_types.specs.declared.Cycle.{Cycle}
-use Rattle.trace_lines.specs.declared.LineRead.{LineRead}
-use Rattle.trace_lines.specs.declared.LineRead.TheVariants.{NotALine, Stated}
 
 -- a kind: R, W or I
 unfoldable pub is_kind : ℕ → Bool
@@ -88,13 +87,13 @@ cycle_stated xs =
     (two_hex (get_or xs 17 0) (get_or xs 18 0))
 
 -- a line read: its cycle, or no line
-unfoldable pub read_line : List ℕ → LineRead
-read_line xs = if is_line xs then Stated (cycle_stated xs) else NotALine
+unfoldable pub read_line : List ℕ → Option Cycle
+read_line xs = if is_line xs then Some (cycle_stated xs) else None
 
 -- a line read by its cases: the cycle stated, or nothing; the page has no number for a line that is none
-abbrev pub line_told : LineRead → List Cycle
-line_told NotALine = []
-line_told (Stated c) = c ∷ []
+abbrev pub line_told : Option Cycle → List Cycle
+line_told None = []
+line_told (Some c) = c ∷ []
 
 -- what a line tells
 unfoldable pub told_in : List ℕ → List Cycle

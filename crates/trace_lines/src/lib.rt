@@ -8,13 +8,7 @@ ghost use Rattle.trace_lines.specs.Inner.{met_from, front_run, supply_run, addre
 
 use model_types::{Cycle, Kind, Pins};
 
-// What a line says: the cycle that it states, or that it is none.
-#[derive(Clone, Copy)]
-pub enum LineRead {
-    NotALine,
-    Stated(Cycle),
-}
-
+#[tactic(auto, unfolding(crate::specs::Lines::is_kind))]
 fn is_kind(b: u8) -> bool
     ensures { result ≡ is_kind b }
 {
@@ -66,6 +60,7 @@ fn good_back(line: &[u8]) -> bool
 }
 
 // Whether 20 bytes are a line of the documented form.
+#[tactic(auto, using(crate::proofs::Runs::line_runs))]
 pub fn is_line(line: &[u8]) -> bool
     ensures { result ≡ is_line line.now }
 {
@@ -73,6 +68,7 @@ pub fn is_line(line: &[u8]) -> bool
     (n == 20) & good_front(line) & good_supply(line) & good_address(line) & good_back(line)
 }
 
+#[tactic(auto, unfolding(crate::specs::Lines::kind_of))]
 fn kind_of(b: u8) -> Kind
     ensures { result ≡ kind_of b }
 {
@@ -107,6 +103,7 @@ fn two(a: u8, b: u8) -> u16
 }
 
 // The cycle that a line states, read off its places.
+#[tactic(auto, unfolding(crate::specs::Lines::cycle_stated))]
 pub fn cycle_in(line: &[u8]) -> Cycle
     ensures { result ≡ cycle_stated line.now }
 {
@@ -141,14 +138,11 @@ pub fn cycle_in(line: &[u8]) -> Cycle
     }
 }
 
-// A line read.
-pub fn read_line(line: &[u8]) -> LineRead
+// A line read: the cycle that it states, or none where it is no line.
+#[tactic(auto, unfolding(crate::specs::Lines::read_line, crate::specs::Lines::told_in))]
+pub fn read_line(line: &[u8]) -> Option<Cycle>
     ensures result { result ≡ read_line line.now }
     ensures told { line_told result ≡ told_in line.now }
 {
-    if is_line(line) {
-        let c = cycle_in(line);
-        return LineRead::Stated(c);
-    }
-    LineRead::NotALine
+    is_line(line).then(|| cycle_in(line))
 }

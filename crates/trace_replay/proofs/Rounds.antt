@@ -8,7 +8,7 @@ use lib.Dec.{eqb}
 use lib.ListN.{length, take, drop, length-append, length-drop, take-append-drop}
 use borrow.Author.Tests.{eq-eqb}
 use lib.Seq.{take-nil, drop-drop, take_at, drop_at, length-take-le, take_all}
-use borrow.Rule.Slice.PartMut.{put_mid, mid_of, mid_len, drop_put, same_len_mid}
+use borrow.Rule.Slice.PartMut.{put_mid, mid_of, mid_len, drop_put}
 use Rattle.std.specs.Prelude.{if◌then◌else◌}
 use Rattle.common.proofs.Choice.{if_true}
 use Rattle.common.specs.Lists.{copied}
@@ -159,11 +159,6 @@ module _ (g i : ℕ) (s t : State) (xs ys zs rs text out : List ℕ) (h : i < g)
       let e : 8 * i + 8 ≡ 8 * (i + 1) = omega arith in
       put_drop i out zs eight room
       ∙ subst (λ (m : ℕ). drop m out ≡ drop m out₀) e (sym (drop-drop 8 (8 * i) out) ∙ ap (λ (w : List ℕ). drop 8 w) q ∙ drop-drop 8 (8 * i) out₀)
-
-  pub round_length : length (put_mid (8 * i) (8 * i + 8 - 8 * i) out zs) ≡ length out
-  round_length =
-      let e : 8 ≡ 8 * i + 8 - 8 * i = omega arith in
-      same_len_mid (8 * i) (8 * i + 8 - 8 * i) out zs (eight ∙ e ∙ sym (mid_len (8 * i) (8 * i + 8) out room))
 
 -- after the last round: the answers, and past them what was there
 pub round_over : (g i : ℕ) (s : State) (xs rs text out out₀ B : List ℕ) → i ≡ g → take (8 * i) out ++ answers_of (g - i) s xs rs (drop (20 * i) text) ≡ B

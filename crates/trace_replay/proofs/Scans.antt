@@ -1,10 +1,15 @@
 -- The count of good lines: a round of the scan, its end, and what the count promises of the text.
 use mathlib.Core.Path.{◌≡◌, refl, sym, ap, ◌∙◌}
-use mathlib.Core.Bool.{Bool, true, false}
+use mathlib.Core.Bool.{Bool, true, false, not, cond}
 use mathlib.Core.List.{List}
 use Prim.Native.Nat.{ℕ, zero, suc, ◌+◌, ◌-◌, ◌*◌, ◌≤◌, ◌<◌, min}
 use native.Mathlib.Omega.{arith}
-use native.Mathlib.Nat.{add-zero}
+use lib.Dec.{ltb}
+use borrow.Author.Tests.{ltb-false}
+use Rattle.std.specs.List.{position_or_len, range_with_len}
+use Rattle.std.specs.Option.{unwrap_or}
+use Rattle.std.proofs.lemmas.List.FromFn.{length-range_with_len}
+use Rattle.std.specs.Prelude.{Option, Some, None}
 use lib.ListN.{length, take, drop, length-take, length-drop}
 use lib.Seq.{drop-drop}
 use Rattle.std.specs.Prelude.{if◌then◌else◌}
@@ -43,27 +48,17 @@ bad_first k text e = more k text ∙ if_false (is_line (take 20 text)) (suc (goo
 pub past : (i : ℕ) (text : List ℕ) → drop 20 (drop (20 * i) text) ≡ drop (20 * (i + 1)) text
 past i text = let e : 20 * i + 20 ≡ 20 * (i + 1) = omega arith in drop-drop 20 (20 * i) text ∙ ap (λ (n : ℕ). drop n text) e
 
--- the scan at line i of at most m
-pub scan_good : (m i : ℕ) (text : List ℕ) → i < m → is_line (take 20 (drop (20 * i) text)) ≡ true
-    → (i + 1) + good_lines (m - (i + 1)) (drop (20 * (i + 1)) text) ≡ i + good_lines (m - i) (drop (20 * i) text)
-scan_good m i text h e =
-    let k : m - i ≡ suc (m - (i + 1)) = omega arith in
-    let g = good_lines (m - (i + 1)) (drop (20 * (i + 1)) text) in
-    let a : (i + 1) + g ≡ i + suc g = omega arith in
-    a ∙ ap (λ (n : ℕ). i + n)
-    (sym (ap (λ (n : ℕ). good_lines n (drop (20 * i) text)) k ∙ good_first (m - (i + 1)) (drop (20 * i) text) e ∙ ap (λ (t : List ℕ). suc (good_lines (m - (i + 1)) t)) (past i text)))
-
-pub scan_bad : (m i : ℕ) (text : List ℕ) → i < m → is_line (take 20 (drop (20 * i) text)) ≡ false → i + good_lines (m - i) (drop (20 * i) text) ≡ i
-scan_bad m i text h e =
-    let k : m - i ≡ suc (m - (i + 1)) = omega arith in
-    ap (λ (n : ℕ). i + n) (ap (λ (n : ℕ). good_lines n (drop (20 * i) text)) k ∙ bad_first (m - (i + 1)) (drop (20 * i) text) e)
-    ∙ add-zero i
-
-pub scan_over : (m i : ℕ) (text : List ℕ) → m ≤ i → i + good_lines (m - i) (drop (20 * i) text) ≡ i
-scan_over m i text h =
-    let k : m - i ≡ 0 = omega arith in
-    ap (λ (n : ℕ). i + n) (ap (λ (n : ℕ). good_lines n (drop (20 * i) text)) k ∙ none (drop (20 * i) text))
-    ∙ add-zero i
+-- the first number from a on whose line is not good, of n numbers: so many good lines come first from line a on
+first_bad : (n a : ℕ) (text : List ℕ) → position_or_len (λ i. not (is_line (take 20 (drop (20 * i) text)))) (range_with_len a n) ≡ good_lines n (drop (20 * a) text)
+unfolding good_lines
+first_bad zero a text = refl
+first_bad (suc n) a text = go (is_line (take 20 (drop (20 * a) text))) refl (first_bad n (a + 1) text)
+  where
+    go : (b : Bool) → is_line (take 20 (drop (20 * a) text)) ≡ b
+        → position_or_len (λ i. not (is_line (take 20 (drop (20 * i) text)))) (range_with_len (a + 1) n) ≡ good_lines n (drop (20 * (a + 1)) text)
+        → position_or_len (λ i. not (is_line (take 20 (drop (20 * i) text)))) (range_with_len a (suc n)) ≡ good_lines (suc n) (drop (20 * a) text)
+    go true e ih = let h = ih ∙ ap (λ (t : List ℕ). good_lines n t) (sym (past a text)) in rw e (omega (arith, h))
+    go false e ih = rw e refl
 
 -- the lines counted are k at most, and all in the text
 pub good_most : (k : ℕ) (text : List ℕ) → good_lines k text ≤ k
@@ -83,3 +78,14 @@ good_fit (suc k) text = go (is_line (take 20 text)) refl (good_fit k (drop 20 te
         let l : min 20 (length text) ≡ 20 = sym (length-take 20 text) ∙ line_length (take 20 text) e in
         omega (arith, good_first k text e, length-drop 20 text)
     go false e h = omega (arith, bad_first k text e)
+
+-- of m numbers the first whose line is not good, or m where each is: the count of the good lines
+pub scan_is : (m : ℕ) (text : List ℕ) (r : Option ℕ)
+    → r ≡ cond (ltb (position_or_len (λ i. not (is_line (take 20 (drop (20 * i) text)))) (range_with_len 0 m)) (length (range_with_len 0 m)))
+    (Some (position_or_len (λ i. not (is_line (take 20 (drop (20 * i) text)))) (range_with_len 0 m))) None
+    → unwrap_or r m ≡ good_lines m text
+scan_is m text r e = go (ltb (good_lines m text) m) refl (rw (first_bad m 0 text, length-range_with_len 0 m) at e)
+  where
+    go : (b : Bool) → ltb (good_lines m text) m ≡ b → r ≡ cond (ltb (good_lines m text) m) (Some (good_lines m text)) None → unwrap_or r m ≡ good_lines m text
+    go true h q = rw (q, h) refl
+    go false h q = let k : m ≤ good_lines m text = ltb-false (good_lines m text) m h in rw (q, h) (omega (arith, good_most m text))

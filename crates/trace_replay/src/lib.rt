@@ -13,6 +13,7 @@ ghost use Rattle.trace_replay.specs.Replays.{bench_t, line_step, step_told, arra
 ghost use Rattle.trace_replay.specs.Replays.{array_left, replayed_in, left_in_room, Used};
 
 use device::{Device, Part};
+use engines::Engine;
 use model::Answer;
 use model_types::{Cycle, State};
 
@@ -39,19 +40,17 @@ pub fn bench() -> Device
     }
 }
 
-// One line's step: the cycle that a line states, on bench T, by the table or by the rules. No promise here tells which.
-pub fn step(table: bool, s: State, c: Cycle, array: &mut [u8], residue: &[u8]) -> Answer
+// One line's step: the cycle that a line states, on bench T, by an engine. No promise here tells by which.
+pub fn step<E: Engine>(s: State, c: Cycle, array: &mut [u8], residue: &[u8]) -> Answer
     ensures result { result ≡ line_step s c array.old residue.now }
     ensures told { seen_told result.seen ≡ step_told s c array.old residue.now }
     ensures array_left { array.new ≡ array_by s c array.old residue.now }
 {
-    let d = bench();
-    engines::cycle(table, d, s, c, array, residue)
+    E::cycle(bench(), s, c, array, residue)
 }
 
 // A line of the documented form is answered: its answer is laid over the front of out.
-pub fn answer_line(
-    table: bool,
+pub fn answer_line<E: Engine>(
     s: State,
     line: &[u8],
     array: &mut [u8],
@@ -66,12 +65,9 @@ pub fn answer_line(
         (printed_of (line_step s (cycle_stated line.now) array.old residue.now)) }
 {
     let c = trace_lines::cycle_in(line);
-    let a = step(table, s, c, array, residue);
-    let seen = a.seen;
-    let state = a.state;
-    let status = state.status;
-    answers::write_answer(seen, status, out);
-    state
+    let a = step::<E>(s, c, array, residue);
+    answers::write_answer(a.seen, a.state.status, out);
+    a.state
 }
 
 // Whether the line after the first i is one of the documented form.
@@ -80,37 +76,21 @@ fn good_at(text: &[u8], i: usize) -> bool
     ensures { result ≡ is_line (take 20 (drop (20 * i) text.now)) }
 {
     let a = 20 * i;
-    let e = a + 20;
-    if text.len() < e {
-        return false;
+    match text.get(a..a + 20) {
+        Some(line) => trace_lines::is_line(line),
+        None => false,
     }
-    trace_lines::is_line(&text[a..e])
 }
 
 // How many good lines come first; line 9999 is not asked.
 pub fn good_lines(text: &[u8]) -> usize
     ensures { result ≡ good_lines 9998 text.now }
 {
-    let mut i = 0;
-    while i < 9998 {
-        if good_at(text, i) {
-            i += 1;
-        } else {
-            return i;
-        }
-    }
-    i
+    (0..9998).position(|i| !good_at(text, i)).unwrap_or(9998)
 }
 
 // The first g lines are answered, each over its eight bytes of out.
-fn answer_lines(
-    table: bool,
-    g: usize,
-    text: &[u8],
-    array: &mut [u8],
-    residue: &[u8],
-    out: &mut [u8],
-)
+fn answer_lines<E: Engine>(g: usize, text: &[u8], array: &mut [u8], residue: &[u8], out: &mut [u8])
     requires { (20 * g ≤ length text.now) × (8 * g ≤ length out.old) }
     ensures array_left { array.new
         ≡ arrays_of g fresh_state array.old residue.now text.now }
@@ -118,25 +98,15 @@ fn answer_lines(
         ≡ answers_of g fresh_state array.old residue.now text.now ++ drop (8 * g) out.old }
 {
     let mut s = model::fresh();
-    let mut i = 0;
-    while i < g {
+    for i in 0..g {
         let a = 20 * i;
-        let e = a + 20;
         let p = 8 * i;
-        let q = p + 8;
-        s = answer_line(table, s, &text[a..e], array, residue, &mut out[p..q]);
-        i += 1;
+        s = answer_line::<E>(s, &text[a..a + 20], array, residue, &mut out[p..p + 8]);
     }
 }
 
 // A whole trace on lent slices: the good lines are counted, answered, and what is left over is marked.
-pub fn replay(
-    table: bool,
-    text: &[u8],
-    array: &mut [u8],
-    residue: &[u8],
-    out: &mut [u8],
-) -> Replayed
+pub fn replay<E: Engine>(text: &[u8], array: &mut [u8], residue: &[u8], out: &mut [u8]) -> Replayed
     ensures result { result
         ≡ replayed_in (length out.old) (output_of array.old residue.now text.now) }
     ensures array_left { array.new
@@ -156,7 +126,7 @@ pub fn replay(
             used: 0,
         };
     }
-    answer_lines(table, g, text, array, residue, out);
+    answer_lines::<E>(g, text, array, residue, out);
     let at = 8 * g;
     answers::write_end(g + 1, left, &mut out[at..n]);
     Replayed { number: 0, used: n }

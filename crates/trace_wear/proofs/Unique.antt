@@ -5,10 +5,11 @@ use Prim.Native.Nat.{ℕ}
 use Rattle.common.specs.Choice.{Unique}
 use Rattle.common.proofs.Choice.{only}
 use Rattle.model_types.specs.declared.Wear.{Wear}
-use Rattle.trace_wear.specs.declared.Worn.{Worn}
+use Rattle.std.specs.Prelude.{Result}
+use Rattle.trace_wear.specs.declared.BadLine.{BadLine}
 use Rattle.trace_wear.specs.Wears.{worn_of, count_told, array_worn}
 
-pub count_unique : (xs rs text : List ℕ) → Unique (λ (r : Worn). r ≡ worn_of xs rs text)
+pub count_unique : (xs rs text : List ℕ) → Unique (λ (r : Result Wear BadLine). r ≡ worn_of xs rs text)
 count_unique xs rs text = only (worn_of xs rs text)
 
 pub count_told_unique : (xs rs text : List ℕ) → Unique (λ (told : ℕ × List Wear). told ≡ count_told xs rs text)

@@ -7,7 +7,7 @@ use native.Mathlib.Omega.{arith}
 use lib.Dec.{eqb}
 use lib.ListN.{length, take, drop, length-drop}
 use borrow.Author.Tests.{eq-eqb, ne_eqb}
-use Rattle.std.specs.Prelude.{if◌then◌else◌}
+use Rattle.std.specs.Prelude.{if◌then◌else◌, Result, Ok}
 use Rattle.common.proofs.Choice.{if_true, if_false}
 use Rattle.model_types.specs.declared.State.{State}
 use Rattle.model_states.specs.States.{fresh_state}
@@ -15,9 +15,9 @@ use Rattle.trace_lines.specs.Lines.{is_line, cycle_stated}
 use Rattle.trace_replay.specs.Replays.{line_step, array_by, good_lines, arrays_of, array_left}
 use Rattle.trace_replay.proofs.Scans.{past, good_fit}
 use Rattle.trace_replay.proofs.Rounds.{answer_to, array_to, arrays_round, array_is}
-use Rattle.trace_wear.specs.declared.Worn.{Worn}
-use Rattle.trace_wear.specs.declared.Worn.TheVariants.{Counted, BadLine}
-use Rattle.trace_wear.specs.Wears.{state_from, bad_at, bad_from, state_left, bad_line, worn_of, worn_told, count_told, array_worn}
+use Rattle.model_types.specs.declared.Wear.{Wear}
+use Rattle.trace_wear.specs.declared.BadLine.{BadLine}
+use Rattle.trace_wear.specs.Wears.{state_from, bad_at, bad_from, state_left, bad_line, bad_as, worn_of, worn_told, count_told, array_worn}
 use Rattle.trace_wear.specs.Inner.{states_of}
 
 states_none : (s : State) (xs rs text : List ℕ) → states_of zero s xs rs text ≡ s
@@ -126,9 +126,9 @@ module _ (g : ℕ) (xs rs text : List ℕ) (eg : g ≡ good_lines 9998 text) whe
     some : eqb (bad_line text) 0 ≡ false
     some = ne_eqb (bad_line text) 0 (λ (e : bad_line text ≡ 0). omega (arith, line))
 
-    pub bad_worn : BadLine (g + 1) ≡ worn_of xs rs text
+    pub bad_worn : bad_as (g + 1) ≡ worn_of xs rs text
     unfolding worn_of
-    bad_worn = ap BadLine (sym line) ∙ sym (if_false (eqb (bad_line text) 0) (Counted (state_left xs rs text).wear) (BadLine (bad_line text)) some)
+    bad_worn = ap bad_as (sym line) ∙ sym (if_false (eqb (bad_line text) 0) (Ok (state_left xs rs text).wear) (bad_as (bad_line text)) some)
 
     pub bad_array : xs ≡ array_worn xs rs text
     unfolding array_worn
@@ -139,11 +139,11 @@ module _ (g : ℕ) (xs rs text : List ℕ) (eg : g ≡ good_lines 9998 text) whe
     whole : eqb (bad_line text) 0 ≡ true
     whole = eq-eqb (bad_line text) 0 (bad ∙ at_end (1 + g) (length text - 20 * g) (omega arith))
 
-    pub good_worn : (s : State) → s ≡ states_of g fresh_state xs rs text → Counted s.wear ≡ worn_of xs rs text
+    pub good_worn : (s : State) → s ≡ states_of g fresh_state xs rs text → Ok s.wear ≡ worn_of xs rs text
     unfolding worn_of state_left
     good_worn s e =
-        ap (λ (x : State). Counted x.wear) (e ∙ ap (λ (m : ℕ). states_of m fresh_state xs rs text) eg ∙ sym (state_is 9998 fresh_state xs rs text))
-        ∙ sym (if_true (eqb (bad_line text) 0) (Counted (state_from 9998 fresh_state xs rs text).wear) (BadLine (bad_line text)) whole)
+        ap (λ (x : State). Ok x.wear) (e ∙ ap (λ (m : ℕ). states_of m fresh_state xs rs text) eg ∙ sym (state_is 9998 fresh_state xs rs text))
+        ∙ sym (if_true (eqb (bad_line text) 0) (Ok (state_from 9998 fresh_state xs rs text).wear) (bad_as (bad_line text)) whole)
 
     pub good_array : (ys : List ℕ) → ys ≡ arrays_of g fresh_state xs rs text → ys ≡ array_worn xs rs text
     unfolding array_worn array_left
@@ -152,12 +152,12 @@ module _ (g : ℕ) (xs rs text : List ℕ) (eg : g ≡ good_lines 9998 text) whe
         ∙ sym (if_true (eqb (bad_line text) 0) (array_left xs rs text) xs whole)
 
 -- the counts with what they tell, and with what is left
-pub worn_too : {r : Worn} {Left : Type 0} (xs rs text : List ℕ) → r ≡ worn_of xs rs text → Left → (r ≡ worn_of xs rs text) × ((worn_told r ≡ count_told xs rs text) × Left)
+pub worn_too : {r : Result Wear BadLine} {Left : Type 0} (xs rs text : List ℕ) → r ≡ worn_of xs rs text → Left → (r ≡ worn_of xs rs text) × ((worn_told r ≡ count_told xs rs text) × Left)
 unfolding worn_of count_told
 worn_too xs rs text e left = (e, (ap worn_told e ∙ go (eqb (bad_line text) 0), left))
   where
     go : (b : Bool)
-        → worn_told (if b then Counted (state_left xs rs text).wear else BadLine (bad_line text))
+        → worn_told (if b then Ok (state_left xs rs text).wear else bad_as (bad_line text))
         ≡ (if b then (0, (state_left xs rs text).wear ∷ []) else (bad_line text, []))
     go true = refl
     go false = refl

@@ -1,12 +1,11 @@
 -- The wear that a whole trace leaves: the counts of its last state, or its first bad line.
-use Rattle.std.specs.Prelude.{List, [], ◌∷◌, ℕ, zero, suc, eqb, length, take, drop, if◌then◌else◌}
+use Rattle.std.specs.Prelude.{List, [], ◌∷◌, ℕ, zero, suc, eqb, length, take, drop, if◌then◌else◌, Result, Ok, Err}
 use Rattle.model_types.specs.declared.State.{State}
 use Rattle.model_types.specs.declared.Wear.{Wear}
 use Rattle.model_states.specs.States.{fresh_state}
 use Rattle.trace_lines.specs.Lines.{is_line, cycle_stated}
 use Rattle.trace_replay.specs.Replays.{line_step, array_by, array_left}
-use Rattle.trace_wear.specs.declared.Worn.{Worn}
-use Rattle.trace_wear.specs.declared.Worn.TheVariants.{Counted, BadLine}
+use Rattle.trace_wear.specs.declared.BadLine.{BadLine}
 
 -- the state that the replay's walk leaves, k lines before the last that may be answered
 unfoldable pub state_from : ℕ → State → List ℕ → List ℕ → List ℕ → State
@@ -34,14 +33,18 @@ state_left xs rs text = state_from 9998 fresh_state xs rs text
 unfoldable pub bad_line : List ℕ → ℕ
 bad_line text = bad_from 9998 1 text
 
+-- no counts, for a bad line
+abbrev pub bad_as : ℕ → Result Wear BadLine
+bad_as n = Err (record { line = n })
+
 -- its counts; a trace with a bad line has none
-unfoldable pub worn_of : List ℕ → List ℕ → List ℕ → Worn
-worn_of xs rs text = if eqb (bad_line text) 0 then Counted (state_left xs rs text).wear else BadLine (bad_line text)
+unfoldable pub worn_of : List ℕ → List ℕ → List ℕ → Result Wear BadLine
+worn_of xs rs text = if eqb (bad_line text) 0 then Ok (state_left xs rs text).wear else bad_as (bad_line text)
 
 -- a trace's counts by their cases: the number of its first bad line, 0 where none is, and the counts
-abbrev pub worn_told : Worn → ℕ × List Wear
-worn_told (Counted w) = (0, w ∷ [])
-worn_told (BadLine n) = (n, [])
+abbrev pub worn_told : Result Wear BadLine → ℕ × List Wear
+worn_told (Ok w) = (0, w ∷ [])
+worn_told (Err e) = (e.line, [])
 
 -- what a trace tells
 unfoldable pub count_told : List ℕ → List ℕ → List ℕ → ℕ × List Wear

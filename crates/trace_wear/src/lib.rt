@@ -8,13 +8,13 @@ ghost use Rattle.trace_replay.specs.Replays.{line_step, array_by, arrays_of};
 ghost use Rattle.trace_wear.specs.Wears.{worn_of, worn_told, count_told, array_worn};
 ghost use Rattle.trace_wear.specs.Inner.{states_of};
 
+use engines::Rules;
 use model_types::{State, Wear};
 
-// The counts of a trace's last state, or the number of its first bad line. A bad trace has no counts.
+// The number of a trace's first bad line, counted from 1. Such a trace has no counts.
 #[derive(Clone, Copy)]
-pub enum Worn {
-    Counted(Wear),
-    BadLine(usize),
+pub struct BadLine {
+    pub line: usize,
 }
 
 // The state after the cycle that a line states.
@@ -24,7 +24,7 @@ fn next(s: State, line: &[u8], array: &mut [u8], residue: &[u8]) -> State
         ≡ array_by s (cycle_stated line.now) array.old residue.now }
 {
     let c = trace_lines::cycle_in(line);
-    let a = trace_replay::step(engines::RULES, s, c, array, residue);
+    let a = trace_replay::step::<Rules>(s, c, array, residue);
     a.state
 }
 
@@ -36,27 +36,22 @@ fn last_state(g: usize, text: &[u8], array: &mut [u8], residue: &[u8]) -> State
         ≡ arrays_of g fresh_state array.old residue.now text.now }
 {
     let mut s = model::fresh();
-    let mut i = 0;
-    while i < g {
+    for i in 0..g {
         let a = 20 * i;
-        let e = a + 20;
-        s = next(s, &text[a..e], array, residue);
-        i += 1;
+        s = next(s, &text[a..a + 20], array, residue);
     }
     s
 }
 
-// A whole trace on lent slices. One with a bad line is not replayed, and the array stays as it is.
-pub fn count(text: &[u8], array: &mut [u8], residue: &[u8]) -> Worn
+// The counts of a whole trace's last state, on lent slices. One with a bad line is not replayed, and the array stays as it is.
+pub fn count(text: &[u8], array: &mut [u8], residue: &[u8]) -> Result<Wear, BadLine>
     ensures result { result ≡ worn_of array.old residue.now text.now }
     ensures told { worn_told result ≡ count_told array.old residue.now text.now }
     ensures array_left { array.new ≡ array_worn array.old residue.now text.now }
 {
     let g = trace_replay::good_lines(text);
     if 20 * g < text.len() {
-        return Worn::BadLine(g + 1);
+        return Err(BadLine { line: g + 1 });
     }
-    let s = last_state(g, text, array, residue);
-    let w = s.wear;
-    Worn::Counted(w)
+    Ok(last_state(g, text, array, residue).wear)
 }

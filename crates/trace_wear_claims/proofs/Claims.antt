@@ -8,13 +8,13 @@ use Rattle.model_states.specs.States.{fresh_state}
 use Rattle.trace_replay.specs.Replays.{bench_t, good_lines, answers_of, output_of}
 use Rattle.wear.specs.Reports.{no_report, report_on, tally_of}
 use Rattle.wear_claims.specs.Traces.{begun_of, wear_of, line_of}
-use Rattle.trace_wear.specs.declared.Worn.TheVariants.{Counted, BadLine}
-use Rattle.trace_wear.specs.Wears.{state_left, bad_line, worn_of}
+use Rattle.std.specs.Prelude.{Ok}
+use Rattle.trace_wear.specs.Wears.{state_left, bad_line, bad_as, worn_of}
 use Rattle.trace_wear_claims.specs.Stated.{buses_from, trace_of, traces_of, worn_all, end_before}
 use Rattle.trace_wear_claims.proofs.Counting as counting
 
 -- A trace without a bad line is counted: its counts are those that the cycles of its lines leave on a fresh bench T ..
-pub good_counted : (xs rs text : List ℕ) → bad_line text ≡ 0 → worn_of xs rs text ≡ Counted (wear_of bench_t (trace_of xs rs text))
+pub good_counted : (xs rs text : List ℕ) → bad_line text ≡ 0 → worn_of xs rs text ≡ Ok (wear_of bench_t (trace_of xs rs text))
 good_counted = counting.counted
 
 -- .. and there is nothing in it but those lines, of 20 bytes each.
@@ -22,7 +22,7 @@ pub good_whole : (rs text : List ℕ) → bad_line text ≡ 0 → 20 * length (b
 good_whole = counting.nothing_else
 
 -- A trace with a bad line has no counts: only the line's number is given ..
-pub bad_refused : (xs rs text : List ℕ) → (bad_line text ≡ 0 → ⊥) → worn_of xs rs text ≡ BadLine (bad_line text)
+pub bad_refused : (xs rs text : List ℕ) → (bad_line text ≡ 0 → ⊥) → worn_of xs rs text ≡ bad_as (bad_line text)
 bad_refused = counting.refused
 
 -- .. and it is the line with whose mark the trace program ends.

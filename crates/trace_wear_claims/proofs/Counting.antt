@@ -28,8 +28,8 @@ use Rattle.wear.specs.Reports.{no_report, report_on, tally_of}
 use Rattle.wear.specs.Counted.{Small}
 use Rattle.wear_claims.specs.Traces.{begun_of, begun_all, wear_of, wears_of, line_of}
 use Rattle.wear_claims.proofs.Claims.{report_agrees}
-use Rattle.trace_wear.specs.declared.Worn.TheVariants.{Counted, BadLine}
-use Rattle.trace_wear.specs.Wears.{state_from, bad_at, state_left, bad_line, worn_of}
+use Rattle.std.specs.Prelude.{Ok}
+use Rattle.trace_wear.specs.Wears.{state_from, bad_at, state_left, bad_line, bad_as, worn_of}
 use Rattle.trace_wear.proofs.Walks.{bad_is}
 use Rattle.trace_wear_claims.specs.Stated.{buses_from, trace_of, traces_of, worn_all, end_before}
 
@@ -107,13 +107,13 @@ nothing_else rs text e =
     let z : length text - 20 * g ≡ 0 = at_rest (1 + g) (length text - 20 * g) (λ (q : 1 + g ≡ 0). omega arith) (sym (bad_is 9998 1 text) ∙ e) in
     omega (arith, z, good_fit 9998 text, as_many 9998 rs text)
 
-pub counted : (xs rs text : List ℕ) → bad_line text ≡ 0 → worn_of xs rs text ≡ Counted (wear_of bench_t (trace_of xs rs text))
+pub counted : (xs rs text : List ℕ) → bad_line text ≡ 0 → worn_of xs rs text ≡ Ok (wear_of bench_t (trace_of xs rs text))
 unfolding worn_of
-counted xs rs text e = rw e (ap Counted (left_is xs rs text))
+counted xs rs text e = rw e (ap Ok (left_is xs rs text))
 
-pub refused : (xs rs text : List ℕ) → (bad_line text ≡ 0 → ⊥) → worn_of xs rs text ≡ BadLine (bad_line text)
+pub refused : (xs rs text : List ℕ) → (bad_line text ≡ 0 → ⊥) → worn_of xs rs text ≡ bad_as (bad_line text)
 unfolding worn_of
-refused xs rs text h = if_false (eqb (bad_line text) 0) (Counted (state_left xs rs text).wear) (BadLine (bad_line text)) (ne_eqb (bad_line text) 0 h)
+refused xs rs text h = if_false (eqb (bad_line text) 0) (Ok (state_left xs rs text).wear) (bad_as (bad_line text)) (ne_eqb (bad_line text) 0 h)
 
 -- the mark of the trace program
 marked : (n left : ℕ) → (n ≡ 0 → ⊥) → trace_end n left ≡ end_before (bad_at n left)

@@ -7,7 +7,8 @@ ghost use Rattle.std.specs.Prelude.{◌<◌, ◌≤◌};
 use device::{Device, Part};
 use loader::Work;
 use loader_run::{Job, Ran};
-use model_types::{Pins, State, Wear};
+use model_types::{Pins, State};
+use vectors_states::{Erases, Shape};
 
 // Number k of a case: as a length, as a byte, as 16 bits, as 32 bits.
 fn field(case: &[u8], k: usize) -> usize
@@ -39,7 +40,7 @@ fn lent(case: &[u8], k: usize, there: usize) -> usize
     requires { k < 100 }
     ensures { result ≤ there }
 {
-    common::least(field(case, k), there)
+    field(case, k).min(there)
 }
 
 // A slice gets the pattern of numbers j and j + 1.
@@ -55,11 +56,8 @@ fn prepare(case: &[u8], j: usize, s: &mut [u8])
 fn change_all(case: &[u8], k: usize, n: usize, s: &mut [u8])
     requires { (k < 50) × (n < 10) }
 {
-    let mut i = 0;
-    while i < n {
-        let at = k + 2 * i;
+    for at in (k..k + 2 * n).step_by(2) {
         text::put(s, field(case, at), byte(case, at + 1));
-        i += 1;
     }
 }
 
@@ -68,8 +66,8 @@ fn write(case: &[u8], file: &mut [u8]) {
     let mut payload = [0u8; 113200];
     vectors_text::pattern(&mut payload, 256, 3, 7);
     let size = lent(case, 1, 113200);
-    common::fill(file, byte(case, 43));
-    file_writer::write(byte(case, 0), &payload[0..size], file);
+    file.fill(byte(case, 43));
+    let _ = file_writer::write(byte(case, 0), &payload[0..size], file);
     change_all(case, 2, 6, file);
 }
 
@@ -89,47 +87,33 @@ fn hold(case: &[u8], array: &mut [u8], file: &[u8]) {
 }
 
 fn device_of(case: &[u8]) -> Device {
-    let number = byte(case, 16);
-    let program = half(case, 17);
-    let erase = half(case, 18);
-    let suspend = byte(case, 41);
-    let word = byte(case, 44) == 1;
     Device {
         part: Part {
-            number: number,
-            word: word,
+            number: byte(case, 16),
+            word: byte(case, 44) == 1,
         },
-        program: program,
-        erase: erase,
-        suspend: suspend,
+        program: half(case, 17),
+        erase: half(case, 18),
+        suspend: byte(case, 41),
     }
 }
 
 fn pins_of(case: &[u8]) -> Pins {
-    let rp = byte(case, 19);
-    let vpp = long(case, 20);
-    let wp = byte(case, 45);
     Pins {
-        rp: rp,
-        wp: wp,
-        vpp: vpp,
+        rp: byte(case, 19),
+        wp: byte(case, 45),
+        vpp: long(case, 20),
     }
 }
 
 fn state_of(case: &[u8]) -> State {
-    let mode = vectors_states::mode_by(byte(case, 22));
-    let status = byte(case, 23);
-    let phase = vectors_states::phase_by(byte(case, 24), 1);
-    let left = half(case, 25);
-    let address = long(case, 26);
-    let wear = vectors_states::wear_at(case, 346);
     State {
-        mode: mode,
-        status: status,
-        phase: phase,
-        left: left,
-        address: address,
-        wear: wear,
+        mode: vectors_states::mode_by(byte(case, 22)),
+        status: byte(case, 23),
+        phase: vectors_states::phase_by(byte(case, 24), 1),
+        left: half(case, 25),
+        address: long(case, 26),
+        wear: vectors_states::wear_at(case, 346),
     }
 }
 
@@ -149,101 +133,49 @@ fn loaded(
     scratch: &mut [u8],
     file: &[u8],
 ) -> Ran {
-    let device = device_of(case);
-    let state = state_of(case);
-    let pins = pins_of(case);
-    let asked = byte(case, 15);
     let j = Job {
-        device: device,
-        state: state,
-        pins: pins,
+        device: device_of(case),
+        state: state_of(case),
+        pins: pins_of(case),
         block: byte(case, 21),
         work: work_of(case),
     };
-    loader_from_file::load(j, array, wanted, scratch, file, asked)
+    loader_from_file::load(j, array, wanted, scratch, file, byte(case, 15))
 }
 
-// A byte in hex.
-fn tell_byte(rt: &impl Print, x: u8) {
-    let mut text = [0u8; 2];
-    text::hex(&mut text, x as u64);
-    streams::write_all(rt, b" ");
-    streams::write_all(rt, &text);
-}
-
-// A mark and a number.
-fn tell(rt: &impl Print, mark: &[u8], n: u64) {
-    streams::write_all(rt, mark);
-    streams::print_decimal(rt, n);
-}
-
-// The last byte, 0 where there is none.
-fn last_of(s: &[u8]) -> u8 {
-    let n = s.len();
-    if n < 1 {
-        return 0;
-    }
-    common::nth(s, n - 1)
-}
-
-// What a slice holds: a digest, its first byte and its last.
-fn tell_slice(rt: &impl Print, mark: &[u8], s: &[u8]) {
-    tell(rt, mark, vectors_text::digest(s));
-    tell_byte(rt, common::nth(s, 0));
-    tell_byte(rt, last_of(s));
-}
-
-// Status, mode and phase.
-fn tell_state(rt: &impl Print, s: State) {
-    let mode = s.mode;
-    let phase = s.phase;
-    streams::write_all(rt, b" S");
-    tell_byte(rt, s.status);
-    let m = vectors_states::mode_letter(mode);
-    let p = vectors_states::phase_letter(phase);
-    let text = [b' ', m, b' ', p];
-    streams::write_all(rt, &text);
+// What a slice holds: a digest, its first byte and its last, 0 where there is none.
+fn tell_slice(rt: &impl Print, mark: char, s: &[u8]) {
+    let sum = vectors_text::digest(s);
+    let first = common::nth(s, 0);
+    let last = common::nth(s, s.len().saturating_sub(1));
+    let _ = print!(rt; " {mark} {sum} {first:02X} {last:02X}");
 }
 
 // The name of a case, the end, its address, the count and the state.
 fn tell_end(rt: &impl Print, case: &[u8], x: Ran) {
-    let state = x.state;
-    let n = common::least(24, case.len());
-    streams::write_all(rt, &case[0..n]);
-    tell(rt, b"E ", x.end as u64);
-    tell(rt, b" A ", x.address as u64);
-    tell(rt, b" N ", x.count);
-    tell_state(rt, state);
+    let n = case.len().min(24);
+    streams::write_all(rt, &case[..n]);
+    let _ = print!(rt;
+        "E {} A {} N {} S {}",
+        x.end,
+        x.address,
+        x.count,
+        Shape(x.state)
+    );
 }
 
 // The three slices after the load.
 fn tell_slices(rt: &impl Print, array: &[u8], wanted: &[u8], scratch: &[u8]) {
-    tell_slice(rt, b" a ", array);
-    tell_slice(rt, b" w ", wanted);
-    tell_slice(rt, b" s ", scratch);
-}
-
-// The erases begun, block by block.
-fn tell_wear(rt: &impl Print, w: Wear) {
-    tell(rt, b" ", w.block0 as u64);
-    tell(rt, b" ", w.block1 as u64);
-    tell(rt, b" ", w.block2 as u64);
-    tell(rt, b" ", w.block3 as u64);
-    tell(rt, b" ", w.block4 as u64);
-    tell(rt, b" ", w.block5 as u64);
-    tell(rt, b" ", w.block6 as u64);
+    tell_slice(rt, 'a', array);
+    tell_slice(rt, 'w', wanted);
+    tell_slice(rt, 's', scratch);
 }
 
 // The counts before the load and after it.
 fn tell_counts(rt: &impl Print, case: &[u8], x: Ran) {
-    let before = state_of(case);
-    let after = x.state;
-    let had = before.wear;
-    let has = after.wear;
-    tell_wear(rt, had);
-    streams::write_all(rt, b" >");
-    tell_wear(rt, has);
-    streams::write_all(rt, b"\n");
+    let had = Erases(state_of(case).wear);
+    let has = Erases(x.state.wear);
+    let _ = print!(rt; "{had} >{has}\n");
 }
 
 // The three slices are prepared, as far as they are lent.
@@ -297,13 +229,8 @@ fn one(rt: &impl Print, case: &[u8]) {
 
 // All cases of a text.
 fn run_all(rt: &impl Print, text: &[u8]) {
-    let n = text.len() / 423;
-    let mut i = 0;
-    while i < n {
-        let from = 423 * i;
-        let to = from + 423;
-        one(rt, &text[from..to]);
-        i += 1;
+    for case in text.chunks_exact(423) {
+        one(rt, case);
     }
 }
 

@@ -2,7 +2,6 @@
 // hex digits; tests/vectors_reading.py says what each letter does.
 #![tactic(auto)]
 
-use file_codec::Written;
 use reading::{Reading, ReadingAnswer};
 
 // How much of the payload, of the file and of the room counts.
@@ -22,19 +21,10 @@ fn second(row: &[u8]) -> u16 {
     vectors_text::half_at(row, 16, 11, 4)
 }
 
-// Bits as a signed number.
-fn signed(u: u32) -> i32 {
-    if u < 2147483648 {
-        return u as i32;
-    }
-    let d = 4294967295 - u;
-    -1 - d as i32
-}
-
 // A letter, a number in hex, a newline.
 fn tell_bits(rt: &impl Print, mark: &[u8], t: f64) {
     streams::write_all(rt, mark);
-    if t != t {
+    if t.is_nan() {
         streams::write_all(rt, b"none\n");
         return;
     }
@@ -66,46 +56,32 @@ fn tell_answer(rt: &impl Print, a: ReadingAnswer) {
 
 // A knot's six bytes from a place on; places past the end do not matter.
 fn put_knot(payload: &mut [u8], at: usize, volts: u32, tenths: u16) {
+    let [a, b, c, d] = volts.to_be_bytes();
+    let [e, f] = tenths.to_be_bytes();
     if at < 4200 {
-        text::put(payload, at, (volts / 16777216 % 256) as u8);
-        text::put(payload, at + 1, (volts / 65536 % 256) as u8);
-        text::put(payload, at + 2, (volts / 256 % 256) as u8);
-        put_rest(payload, at + 3, volts, tenths);
-    }
-}
-
-fn put_rest(payload: &mut [u8], at: usize, volts: u32, tenths: u16) {
-    if at < 4210 {
-        text::put(payload, at, (volts % 256) as u8);
-        text::put(payload, at + 1, (tenths / 256) as u8);
-        text::put(payload, at + 2, (tenths % 256) as u8);
+        text::put_text(payload, at, &[a, b, c, d, e, f]);
     }
 }
 
 // A byte of the file is changed, and its block gets the check that fits.
+// Kept: three programs seal a block; a library of its own for these lines, over file_check, is no plainer.
 fn forge(file: &mut [u8], at: usize, b: u8) {
     text::put(file, at, b);
-    let k = at / 512;
-    if k < 8 {
-        let from = 512 * k;
-        let to = from + 512;
-        if to <= file.len() {
-            let c = file_check::check(&file[from..to]);
-            text::put(file, from + 510, (c / 256) as u8);
-            text::put(file, from + 511, (c % 256) as u8);
-        }
+    if let Some(block) = file.chunks_exact_mut(512).take(8).nth(at / 512) {
+        let c = file_check::check(block);
+        block[510..].copy_from_slice(&c.to_be_bytes());
     }
 }
 
 // The file of the payload; its length.
 fn write_file(rt: &impl Print, letter: u8, payload: &[u8], file: &mut [u8]) -> usize {
     match file_writer::write(letter, payload, file) {
-        Written::Wrote(n) => {
+        Ok(n) => {
             tell_number(rt, b"W ", n as u64);
             n
         }
-        Written::Refused(n) => {
-            tell_number(rt, b"! ", n as u64);
+        Err(refusal) => {
+            tell_number(rt, b"! ", refusal.number() as u64);
             0
         }
     }
@@ -118,56 +94,38 @@ fn payload_row(row: &[u8], kind: u8, s: Sizes, payload: &mut [u8]) -> Sizes {
         put_knot(payload, at, first(row), second(row));
         return Sizes {
             payload: at + 6,
-            file: s.file,
-            room: s.room,
+            ..s
         };
     }
     if kind == b'B' {
         text::put(payload, at, (first(row) % 256) as u8);
         return Sizes {
             payload: at + 1,
-            file: s.file,
-            room: s.room,
+            ..s
         };
     }
-    Sizes {
-        payload: 0,
-        file: s.file,
-        room: s.room,
-    }
+    Sizes { payload: 0, ..s }
 }
 
 // Lengths that a row sets.
 fn length_row(row: &[u8], kind: u8, s: Sizes) -> Sizes {
     let n = first(row) as usize;
     if kind == b'L' {
-        return Sizes {
-            payload: s.payload,
-            file: n,
-            room: s.room,
-        };
+        return Sizes { file: n, ..s };
     }
-    Sizes {
-        payload: s.payload,
-        file: s.file,
-        room: n,
-    }
+    Sizes { room: n, ..s }
 }
 
 // The payload is written.
 fn write_row(rt: &impl Print, row: &[u8], s: Sizes, payload: &[u8], file: &mut [u8]) -> Sizes {
     let size = common::least(s.payload, payload.len());
     let n = write_file(rt, (first(row) % 256) as u8, &payload[0..size], file);
-    Sizes {
-        payload: s.payload,
-        file: n,
-        room: s.room,
-    }
+    Sizes { file: n, ..s }
 }
 
 // Questions about the payload.
 fn ask_payload(rt: &impl Print, row: &[u8], kind: u8, payload: &[u8]) {
-    let x = signed(first(row));
+    let x = first(row).cast_signed();
     if kind == b'R' {
         tell_answer(rt, reading::reading_at(payload, x));
         return;
@@ -184,7 +142,12 @@ fn ask_file(rt: &impl Print, row: &[u8], file: &[u8], room: &mut [u8]) {
     common::fill(room, 90);
     tell_answer(
         rt,
-        reading::reading_from_file(file, (second(row) % 256) as u8, room, signed(first(row))),
+        reading::reading_from_file(
+            file,
+            (second(row) % 256) as u8,
+            room,
+            first(row).cast_signed(),
+        ),
     );
     tell_number(rt, b"D ", vectors_text::digest(room));
 }
@@ -229,10 +192,7 @@ fn change_row(
         common::fill(file, 255);
         return s;
     }
-    if kind == b'L' {
-        return length_row(row, kind, s);
-    }
-    if kind == b'M' {
+    if matches!(kind, b'L' | b'M') {
         return length_row(row, kind, s);
     }
     payload_row(row, kind, s, payload)
@@ -240,11 +200,7 @@ fn change_row(
 
 // A letter that asks.
 fn asks(kind: u8) -> bool {
-    let j = kind == b'J';
-    let r = kind == b'R';
-    let s = kind == b'S';
-    let f = kind == b'F';
-    j | r | s | f
+    matches!(kind, b'J' | b'R' | b'S' | b'F')
 }
 
 // One row.
@@ -266,18 +222,13 @@ fn run(
 
 // All rows of a text.
 fn run_all(rt: &impl Print, text: &[u8], payload: &mut [u8], file: &mut [u8], room: &mut [u8]) {
-    let n = text.len() / 16;
     let mut s = Sizes {
         payload: 0,
         file: 0,
         room: 4040,
     };
-    let mut i = 0;
-    while i < n {
-        let from = 16 * i;
-        let to = from + 16;
-        s = run(rt, &text[from..to], s, payload, file, room);
-        i += 1;
+    for row in text.chunks_exact(16) {
+        s = run(rt, row, s, payload, file, room);
     }
 }
 

@@ -26,10 +26,8 @@ fn put_pieces(text: &mut [u8], len: usize, piece: &[u8], times: usize) -> usize
     ensures { result ≤ length text.new }
 {
     let mut at = len;
-    let mut i = 0;
-    while i < times {
+    for _ in 0..times {
         at = put_piece(text, at, piece);
-        i += 1;
     }
     at
 }

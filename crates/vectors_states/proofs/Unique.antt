@@ -7,11 +7,15 @@ use lib.ListN.{length, replicate}
 use Rattle.common.specs.Choice.{Unique}
 use Rattle.common.proofs.Choice.{only}
 use Rattle.device.specs.declared.Device.{Device}
+use Rattle.model_types.specs.declared.Cycle.{Cycle}
+use Rattle.model_types.specs.declared.Kind.{Kind}
 use Rattle.model_types.specs.declared.Mode.{Mode}
 use Rattle.model_types.specs.declared.Phase.{Phase}
+use Rattle.model_types.specs.declared.Pins.{Pins}
 use Rattle.model_types.specs.declared.State.{State}
 use Rattle.model_types.specs.declared.Wear.{Wear}
 use Rattle.vectors_states.specs.Letters.{mode_by, phase_by, mode_letter, phase_letter, wear_at, state_at, word_by, device_at, same_wear, same_state}
+use Rattle.vectors_states.specs.Cycles.{kind_letter, kind_by, cycle_at, levels_at}
 
 pub mode_by_unique : (letter : ℕ) → Unique (λ (r : Mode). r ≡ mode_by letter)
 mode_by_unique letter = only (mode_by letter)
@@ -42,6 +46,18 @@ same_wear_unique a b = only (same_wear a b)
 
 pub same_state_unique : (a b : State) → Unique (λ (r : Bool). r ≡ same_state a b)
 same_state_unique a b = only (same_state a b)
+
+pub kind_letter_unique : (kind : Kind) → Unique (λ (r : ℕ). r ≡ kind_letter kind)
+kind_letter_unique kind = only (kind_letter kind)
+
+pub kind_by_unique : (letter : ℕ) → Unique (λ (r : Kind). r ≡ kind_by letter)
+kind_by_unique letter = only (kind_by letter)
+
+pub cycle_at_unique : (row : List ℕ) (letter : ℕ) → Unique (λ (r : Cycle). r ≡ cycle_at row letter)
+cycle_at_unique row letter = only (cycle_at row letter)
+
+pub levels_at_unique : (row : List ℕ) → Unique (λ (r : Pins). r ≡ levels_at row)
+levels_at_unique row = only (levels_at row)
 
 -- the array made
 pub vast_unique : Unique (λ (r : List ℕ). (r ≡ replicate {A = ℕ} 524289 0) × (524289 ≡ length r))

@@ -1,1 +1,3 @@
 pub mod Letters
+pub mod Cycles
+pub mod Shown

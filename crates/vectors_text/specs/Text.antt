@@ -1,12 +1,7 @@
 -- Numbers read off text, and where a row ends.
-use Rattle.std.specs.Prelude.{List, [], ◌∷◌, ℕ, suc, ◌+◌, ◌*◌, ◌%◌, eqb, get_or, take, drop, if◌then◌else◌}
+use Rattle.std.specs.Prelude.{List, [], ◌∷◌, ℕ, suc, ◌+◌, ◌*◌, ◌%◌, eqb, get_or, take, drop, fold, if◌then◌else◌}
 use Rattle.text.specs.Digits.{is_hex, hex_of}
 use Rattle.vectors_text.specs.declared.Group.{Group}
-
--- a walk over a list: each element changes what is held by the step f
-abbrev pub walk : (ℕ → ℕ → ℕ) → ℕ → List ℕ → ℕ
-walk f v [] = v
-walk f v (x ∷ xs) = walk f (f v x) xs
 
 -- what a digit is worth, 0 for any other letter
 unfoldable pub digit_read : ℕ → ℕ
@@ -18,7 +13,7 @@ digit_more base v x = (base * v + digit_read x) % 4294967296
 
 -- the number that letters spell in a base
 unfoldable pub number_read : ℕ → List ℕ → ℕ
-number_read base xs = walk (digit_more base) 0 xs
+number_read base xs = fold (digit_more base) 0 xs
 
 -- so many letters from a place on, as many as there are
 abbrev pub field_of : List ℕ → ℕ → ℕ → List ℕ
@@ -36,3 +31,7 @@ next_row text at = at + row_of (drop at text)
 -- the group that a row names: the letters at places 2 to 5
 unfoldable pub group_at : List ℕ → Group
 group_at row = record { a = get_or row 2 0; b = get_or row 3 0; c = get_or row 4 0; d = get_or row 5 0 }
+
+-- the letters of a group
+abbrev pub letters_of : Group → List ℕ
+letters_of g = g.a ∷ g.b ∷ g.c ∷ g.d ∷ []

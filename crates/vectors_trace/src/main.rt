@@ -2,6 +2,7 @@
 // from tests/vectors_trace.py, which reads a trace in its own way and says what a line shows.
 #![tactic(auto)]
 
+use engines::{Engine, Rules, Table};
 use trace_replay::Replayed;
 
 // A case: so many bytes of input, with one byte put at a place, and so many bytes of room.
@@ -15,10 +16,10 @@ struct Case {
 
 fn tried(bytes: usize, place: usize, byte: u8, room: usize) -> Case {
     Case {
-        bytes: bytes,
-        place: place,
-        byte: byte,
-        room: room,
+        bytes,
+        place,
+        byte,
+        room,
     }
 }
 
@@ -26,10 +27,8 @@ fn tried(bytes: usize, place: usize, byte: u8, room: usize) -> Case {
 fn pattern(text: &mut [u8]) {
     let four =
         b"W 1 0 12000 0010 40\nW 1 0 12000 0010 5A\nR 1 0 12000 0010 00\nR 1 0 12000 0010 00\n";
-    let mut i = 0;
-    while i < text.len() {
-        text[i] = common::nth(four, i % 80);
-        i += 1;
+    for (b, x) in text.iter_mut().zip(four.iter().cycle()) {
+        *b = *x;
     }
 }
 
@@ -163,8 +162,7 @@ fn lengths(i: u64) -> Case {
 }
 
 // The replay of a case, on a fresh array and a fresh output.
-fn replayed(
-    table: bool,
+fn replayed<E: Engine>(
     c: Case,
     text: &[u8],
     array: &mut [u8],
@@ -175,13 +173,12 @@ fn replayed(
     let m = common::least(c.room, out.len());
     common::fill(array, 255);
     common::fill(out, 46);
-    trace_replay::replay(table, &text[0..n], array, residue, &mut out[0..m])
+    trace_replay::replay::<E>(&text[0..n], array, residue, &mut out[0..m])
 }
 
 // One case: its byte is put into the text, and taken out again.
-fn run(
+fn run<E: Engine>(
     rt: &impl Print,
-    table: bool,
     i: u64,
     text: &mut [u8],
     array: &mut [u8],
@@ -192,24 +189,21 @@ fn run(
     let at = c.place;
     let old = common::nth(text, at);
     text::put(text, at, c.byte);
-    let r = replayed(table, c, text, array, residue, out);
+    let r = replayed::<E>(c, text, array, residue, out);
     text::put(text, at, old);
     show(rt, i, r, array, out);
 }
 
 // Every case in its turn, by one engine.
-fn all(
+fn all<E: Engine>(
     rt: &impl Print,
-    table: bool,
     text: &mut [u8],
     array: &mut [u8],
     residue: &[u8],
     out: &mut [u8],
 ) {
-    let mut i: u64 = 1;
-    while i < 38 {
-        run(rt, table, i, text, array, residue, out);
-        i += 1;
+    for i in 1..38 {
+        run::<E>(rt, i, text, array, residue, out);
     }
 }
 
@@ -219,20 +213,6 @@ fn main(rt: HostRuntime) {
     let residue = [255u8; 16384];
     let mut out = [0u8; 80000];
     pattern(&mut text);
-    all(
-        &rt,
-        engines::RULES,
-        &mut text,
-        &mut array,
-        &residue,
-        &mut out,
-    );
-    all(
-        &rt,
-        engines::TABLE,
-        &mut text,
-        &mut array,
-        &residue,
-        &mut out,
-    );
+    all::<Rules>(&rt, &mut text, &mut array, &residue, &mut out);
+    all::<Table>(&rt, &mut text, &mut array, &residue, &mut out);
 }

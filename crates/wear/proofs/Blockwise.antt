@@ -1,21 +1,20 @@
 -- A block of a report is its own counts, one after the other.
 use mathlib.Core.Path.{◌≡◌, refl, sym, ap, ◌∙◌}
-use mathlib.Core.Bool.{Bool, true, false, not, ◌||◌}
+use mathlib.Core.Bool.{true, false}
 use mathlib.Core.List.{List}
 use Prim.Native.Nat.{ℕ, zero, suc, ◌+◌, ◌-◌, ◌*◌, ◌≤◌, ◌<◌}
 use native.Mathlib.Omega.{arith}
-use lib.ListN.{length, get_or, drop, get_or-eq_default}
+use lib.ListN.{length, get_or, get_or-eq_default}
 use lib.Dec.{eqb}
 use borrow.Author.Tests.{lt-ltb, le-ltb}
-use Rattle.model_types.specs.declared.Wear.{Wear}
 use Rattle.model_types.specs.Counts.{stop, count_of, raised}
 use Rattle.model_types.proofs.Wears.{among, raised_is}
 use Rattle.wear.specs.declared.Tally.{Tally}
 use Rattle.wear.specs.declared.Report.{Report}
-use Rattle.wear.specs.Reports.{most, added_up, passing, tallied, no_tally, no_report, added, wear_at, report_from, tally_of, lowest}
+use Rattle.wear.specs.Reports.{passing, tallied, no_tally, no_report, added, wear_at, report_from, tally_of, lowest}
 use Rattle.wear.specs.Counted.{counts_of, wears_from}
 use Rattle.wear.specs.Columns.{column_from, first_tally}
-use Rattle.wear.proofs.Folding.{added_is, lowest_is, lowest_first, raised_some, none_tallies, tally_on, folded, from_list}
+use Rattle.wear.proofs.Folding.{lowest_is, lowest_first, raised_some, none_tallies, tally_on, folded, from_list}
 
 -- block k's count of trace i
 count_there : (cs : List ℕ) (i k : ℕ) → k < 7 → count_of (wear_at cs i) k ≡ get_or cs (7 * i + k) 0
@@ -89,13 +88,6 @@ two_more m i k cs t h =
 pub none_more : (m i k : ℕ) (cs : List ℕ) (t : Tally) → m ≤ i → column_from (2 * m - 2 * i) (2 * i) k cs t ≡ t
 none_more m i k cs t h = ap (λ (n : ℕ). column_from n (2 * i) k cs t) (let q : 2 * m - 2 * i ≡ 0 = omega arith in q)
 
--- the last one, or none
-pub one_left : (n i k : ℕ) (cs : List ℕ) (t : Tally) → n ≡ i + 1 → tallied false t (get_or cs (7 * i + k) 0) ≡ column_from (n - i) i k cs t
-one_left n i k cs t h = ap (λ (j : ℕ). column_from j i k cs t) (let q : 1 ≡ n - i = omega arith in q)
-
-pub none_left : (n i k : ℕ) (cs : List ℕ) (t : Tally) → n ≤ i → t ≡ column_from (n - i) i k cs t
-none_left n i k cs t h = ap (λ (j : ℕ). column_from j i k cs t) (let q : 0 ≡ n - i = omega arith in q)
-
 -- the traces of a report are counted
 pub traces_are : (n i : ℕ) (cs : List ℕ) (r : Report) → r.traces + n ≤ stop → (report_from n i cs r).traces ≡ r.traces + n
 traces_are zero i cs r h = omega arith
@@ -103,10 +95,7 @@ traces_are (suc n) i cs r h =
     let e : raised r.traces ≡ r.traces + 1 = raised_is r.traces (omega arith) ∙ omega arith in
     traces_are n (i + 1) cs (added r (wear_at cs i)) (omega arith) ∙ omega arith
 
--- a sum and a number that have room do not stop
-pub added_room : (a n : ℕ) → a + n ≤ most → a + n ≡ added_up a n
-added_room a n h = sym (added_is a n (omega arith) (omega arith) ∙ omega arith)
-
+-- one more where a count passed the sheet's, where there is room
 pub passed_none : (a n : ℕ) → n ≤ 100000 → a ≡ passing a n
 unfolding passing
 passed_none a n h = simp (le-ltb 100000 n h)

@@ -41,44 +41,16 @@ pub struct Reported {
     pub report: Report,
 }
 
-// The largest total.
-const MOST: u64 = 0xFFFF_FFFF_FFFF_FFFF;
-
 // What a trace must pass to be counted as passed.
 const SHEET: u32 = 100000;
 
 // The most traces.
 const TRACES: u32 = 65535;
 
-fn add_up(a: u64, n: u32) -> u64
-    ensures { result ≡ added_up a n }
-{
-    let m = n as u64;
-    if MOST - m < a {
-        return MOST;
-    }
-    a + m
-}
-
-fn larger(a: u32, n: u32) -> u32
-    ensures { result ≡ larger a n }
-{
-    if a < n {
-        return n;
-    }
-    a
-}
-
 fn lowest(first: bool, a: u32, n: u32) -> u32
     ensures { result ≡ lowest first a n }
 {
-    if first {
-        return n;
-    }
-    if n < a {
-        return n;
-    }
-    a
+    if first { n } else { a.min(n) }
 }
 
 fn pass(a: u32, n: u32) -> u32
@@ -95,8 +67,8 @@ fn tally_up(first: bool, t: Tally, n: u32) -> Tally
     ensures { result ≡ tallied first t n }
 {
     Tally {
-        total: add_up(t.total, n),
-        largest: larger(t.largest, n),
+        total: t.total.saturating_add(u64::from(n)),
+        largest: t.largest.max(n),
         smallest: lowest(first, t.smallest, n),
         passed: pass(t.passed, n),
     }
@@ -135,22 +107,15 @@ pub fn add(r: Report, w: Wear) -> Report
     ensures { result ≡ added r w }
 {
     let first = r.traces == 0;
-    let t0 = r.block0;
-    let t1 = r.block1;
-    let t2 = r.block2;
-    let t3 = r.block3;
-    let t4 = r.block4;
-    let t5 = r.block5;
-    let t6 = r.block6;
     Report {
         traces: raise(r.traces),
-        block0: tally_up(first, t0, w.block0),
-        block1: tally_up(first, t1, w.block1),
-        block2: tally_up(first, t2, w.block2),
-        block3: tally_up(first, t3, w.block3),
-        block4: tally_up(first, t4, w.block4),
-        block5: tally_up(first, t5, w.block5),
-        block6: tally_up(first, t6, w.block6),
+        block0: tally_up(first, r.block0, w.block0),
+        block1: tally_up(first, r.block1, w.block1),
+        block2: tally_up(first, r.block2, w.block2),
+        block3: tally_up(first, r.block3, w.block3),
+        block4: tally_up(first, r.block4, w.block4),
+        block5: tally_up(first, r.block5, w.block5),
+        block6: tally_up(first, r.block6, w.block6),
     }
 }
 
@@ -158,18 +123,7 @@ pub fn add(r: Report, w: Wear) -> Report
 fn count_at(s: &[u32], at: usize) -> u32
     ensures { result ≡ get_or s.now at 0 }
 {
-    if at < s.len() {
-        return s[at];
-    }
-    0
-}
-
-// A total with a count more, where it has room.
-fn add_in(a: u64, n: u32) -> u64
-    requires { a + n ≤ most }
-    ensures { (result ≡ added_up a n) × (result ≡ a + n) }
-{
-    a + n as u64
+    s.get(at).copied().unwrap_or(0)
 }
 
 // One more where a count passed the sheet's, where it has room.
@@ -189,8 +143,8 @@ fn tally_in(t: Tally, n: u32) -> Tally
     ensures { (result ≡ tallied false t n) × ((result.total ≡ t.total + n) × (result.passed ≤ t.passed + 1)) }
 {
     Tally {
-        total: add_in(t.total, n),
-        largest: larger(t.largest, n),
+        total: t.total + u64::from(n),
+        largest: t.largest.max(n),
         smallest: lowest(false, t.smallest, n),
         passed: pass_in(t.passed, n),
     }
@@ -214,12 +168,10 @@ fn pairs(s: &[u32], k: usize, m: usize, from: Tally) -> Tally
     ensures { (result ≡ column_from (2 * m) 0 k s.now from) × Room (2 * m) result }
 {
     let mut t = from;
-    let mut i = 0;
-    while i < m {
+    for i in 0..m {
         let at = 14 * i + k;
         let u = tally_in(t, s[at]);
         t = tally_in(u, s[at + 7]);
-        i += 1;
     }
     t
 }
@@ -229,11 +181,7 @@ fn odd(s: &[u32], k: usize, i: usize, n: usize, t: Tally) -> Tally
     requires { Few k n (length s.now) × ((i ≤ n) × ((n ≤ i + 1) × Room i t)) }
     ensures { result ≡ column_from (n - i) i k s.now t }
 {
-    if i < n {
-        let u = tally_in(t, s[7 * i + k]);
-        return u;
-    }
-    t
+    if i < n { tally_in(t, s[7 * i + k]) } else { t }
 }
 
 // Block k of the report on n traces.
@@ -264,38 +212,25 @@ fn sum(s: &[u32], n: usize) -> Report
     }
 }
 
-// The number is another.
-fn is_other(x: u8, number: u8) -> bool
-    ensures { result ≡ not (eqb x number) }
-{
-    !(x == number)
-}
-
 // Whether some trace is from another device number. The walk has no stop, so that the compiler takes many numbers at once.
 fn differ(number: u8, s: &[u8]) -> bool
     ensures { result ≡ differ number s.now }
 {
-    let mut found = false;
-    let mut i = 0;
-    while i < s.len() {
-        found = found | is_other(s[i], number);
-        i += 1;
-    }
-    found
+    s.iter().fold(false, |found, x| found | (*x != number))
 }
 
 // Whether the counts are not seven for each trace.
 fn uneven_counts(traces: usize, counts: usize) -> bool
     ensures { result ≡ uneven_counts traces counts }
 {
-    !(counts / 7 == traces) | !(counts % 7 == 0)
+    counts / 7 != traces || counts % 7 != 0
 }
 
 fn unknown(number: u8) -> bool
     ensures { result ≡ unknown_number number }
 {
     device::unknown_part(Part {
-        number: number,
+        number,
         word: false,
     })
 }

@@ -7,7 +7,9 @@ use lib.Dec.{eqb, ltb}
 use lib.ListN.{length}
 use Rattle.common.proofs.Choice.{if_true, if_false, if_same}
 use Rattle.std.specs.Counts.{IsPrefixLen}
-use Rattle.trace_wear.specs.declared.Worn.{Worn}
+use Rattle.std.specs.Prelude.{Result}
+use Rattle.model_types.specs.declared.Wear.{Wear}
+use Rattle.trace_wear.specs.declared.BadLine.{BadLine}
 use Rattle.wear.specs.declared.Reported.{Reported}
 use Rattle.wear_print.specs.Tables.{table_text, line_text, laid_in, count_in}
 use Rattle.wear_print.proofs.Laying.{counts}
@@ -54,7 +56,7 @@ pub cut : (c : Counting) (k : ℕ) (text : List ℕ) (ended : Bool) → unread (
 unfolding more_said
 cut c k text ended e = sym (if_true (unread (length text) ended) (uncounted c 33 k 0) (worn_said c k (worn_fresh text)) e)
 
-pub whole : (c : Counting) (k : ℕ) (text : List ℕ) (ended : Bool) (w : Worn) → unread (length text) ended ≡ false → worn_fresh text ≡ w → worn_said c k w ≡ more_said c k text ended
+pub whole : (c : Counting) (k : ℕ) (text : List ℕ) (ended : Bool) (w : Result Wear BadLine) → unread (length text) ended ≡ false → worn_fresh text ≡ w → worn_said c k w ≡ more_said c k text ended
 unfolding more_said
 whole c k text ended w e f = ap (worn_said c k) (sym f) ∙ sym (if_false (unread (length text) ended) (uncounted c 33 k 0) (worn_said c k (worn_fresh text)) e)
 

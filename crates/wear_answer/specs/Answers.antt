@@ -1,8 +1,7 @@
 -- What the wear program says of traces: a line for each that is not counted, and the table where all are.
-use Rattle.std.specs.Prelude.{Bool, true, false, not, ◌&&◌, List, [], ℕ, eqb, ltb, length, replicate, if◌then◌else◌}
+use Rattle.std.specs.Prelude.{Bool, true, false, not, ◌&&◌, List, [], ℕ, eqb, ltb, length, replicate, if◌then◌else◌, Result, Ok, Err}
 use Rattle.model_types.specs.declared.Wear.{Wear}
-use Rattle.trace_wear.specs.declared.Worn.{Worn}
-use Rattle.trace_wear.specs.declared.Worn.TheVariants.{Counted, BadLine}
+use Rattle.trace_wear.specs.declared.BadLine.{BadLine}
 use Rattle.trace_wear.specs.Wears.{worn_of}
 use Rattle.recording_wear.specs.Recorded.{looks_recorded, worn_recorded}
 use Rattle.wear.specs.declared.Reported.{Reported}
@@ -17,11 +16,11 @@ abbrev pub none_yet : Counting
 none_yet = record { report = no_report; good = true }
 
 -- a trace on bench T, fresh, with an array and a residue of FFH
-unfoldable pub worn_traced : List ℕ → Worn
+unfoldable pub worn_traced : List ℕ → Result Wear BadLine
 worn_traced text = worn_of (replicate {A = ℕ} 16384 255) (replicate {A = ℕ} 16384 255) text
 
 -- a recording or a trace: which of them it is, its first line says
-unfoldable pub worn_fresh : List ℕ → Worn
+unfoldable pub worn_fresh : List ℕ → Result Wear BadLine
 worn_fresh text = if looks_recorded text then worn_recorded text else worn_traced text
 
 -- it was not read to its end: fewer bytes than 9,999 lines of a recording have, and the file does not end there
@@ -52,9 +51,9 @@ abbrev pub wear_said : Counting → ℕ → Wear → Told
 wear_said c k w = added_said c k (added_to 3 c.report 3 w)
 
 -- a trace replayed: its counts, or a ? (63) and its first bad line
-abbrev pub worn_said : Counting → ℕ → Worn → Told
-worn_said c k (Counted w) = wear_said c k w
-worn_said c k (BadLine n) = uncounted c 63 k n
+abbrev pub worn_said : Counting → ℕ → Result Wear BadLine → Told
+worn_said c k (Ok w) = wear_said c k w
+worn_said c k (Err e) = uncounted c 63 k e.line
 
 -- one trace more: a ! (33) and 0 where it was not read to its end, else what its replay comes to
 unfoldable pub more_said : Counting → ℕ → List ℕ → Bool → Told

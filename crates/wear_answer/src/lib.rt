@@ -9,7 +9,7 @@ ghost use Rattle.wear_answer.specs.Answers.{none_yet, worn_traced, worn_fresh, u
 ghost use Rattle.wear_answer.specs.Answers.{final_text};
 
 use model_types::Wear;
-use trace_wear::Worn;
+use trace_wear::BadLine;
 use wear::Report;
 
 // As many bytes as 9,999 lines of a recording have: what fills them is too long, whatever follows. A trace's lines are shorter.
@@ -41,7 +41,7 @@ pub fn none() -> Counting
 }
 
 // A trace on bench T, fresh, with an array and a residue of FFH.
-fn traced(text: &[u8]) -> Worn
+fn traced(text: &[u8]) -> Result<Wear, BadLine>
     ensures { result ≡ worn_traced text.now }
 {
     let mut array = [255u8; 16384];
@@ -50,7 +50,7 @@ fn traced(text: &[u8]) -> Worn
 }
 
 // A trace or a recording: which of them it is, its first line says.
-fn judged(text: &[u8]) -> Worn
+fn judged(text: &[u8]) -> Result<Wear, BadLine>
     ensures { result ≡ worn_fresh text.now }
 {
     if recording_wear::is_recording(text) {
@@ -119,8 +119,8 @@ pub fn one_more(counting: Counting, out: &mut [u8], k: usize, text: &[u8], ended
         return say(counting, out, b'!', k, 0);
     }
     match judged(text) {
-        Worn::Counted(w) => add_wear(counting, out, k, w),
-        Worn::BadLine(n) => say(counting, out, b'?', k, n),
+        Ok(w) => add_wear(counting, out, k, w),
+        Err(e) => say(counting, out, b'?', k, e.line),
     }
 }
 

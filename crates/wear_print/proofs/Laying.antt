@@ -1,42 +1,35 @@
 -- Text laid behind text from a place on, and the count of a number's digits, turn by turn.
-use mathlib.Core.Path.{◌≡◌, refl, sym, ap, ap₂, ◌∙◌}
+use mathlib.Core.Path.{◌≡◌, refl, sym, ap, ap₂, subst, ◌∙◌}
 use mathlib.Core.List.{List, [], ◌∷◌, ◌++◌, append_assoc}
-use Prim.Native.Nat.{ℕ, zero, suc, ◌+◌, ◌-◌, ◌/◌, ◌%◌, ◌≤◌, ◌<◌}
+use Prim.Native.Nat.{ℕ, zero, suc, ◌+◌, ◌-◌, ◌*◌, ◌/◌, ◌%◌, ◌^◌, ◌≤◌, ◌<◌}
+use native.Mathlib.Nat.{pow-suc}
 use native.Mathlib.Omega.{arith}
 use lib.Dec.{ltb}
 use lib.ListN.{length, take, drop, set, length-append}
 use lib.Seq.{sets-eq, drop-drop, take_at, drop_at, take_all, length-take-le}
 use borrow.Author.Tests.{lt-ltb, le-ltb}
 use borrow.Rule.Slice.PartMut.{put_mid, mid_of, mid_len}
-use Rattle.std.specs.Prelude.{if◌then◌else◌}
 use Rattle.common.specs.Lists.{copied, overlaid}
 use Rattle.common.proofs.Choice.{if_true, if_false}
 use Rattle.text.specs.Digits.{spelled, digit_letter}
 use Rattle.wear_print.specs.Tables.{width_from, width_of, field_text, head_text, laid_in, count_in}
 
--- the digits of a number, a turn of the loop that counts them
-none : (n : ℕ) → width_from zero n ≡ 1
+-- a number of one digit
+pub width_one : (m n : ℕ) → n < 10 → width_from (suc m) n ≡ 1
 unfolding width_from
-none n = refl
+width_one m n h = simp (lt-ltb n 10 h)
 
-more : (k n : ℕ) → width_from (suc k) n ≡ (if ltb n 10 then 1 else suc (width_from k (n / 10)))
+-- a number of k digits behind its first
+pub width_is : (m n k : ℕ) → k ≤ m → 10 ^ k ≤ n → n < 10 * 10 ^ k → width_from m n ≡ k + 1
 unfolding width_from
-more k n = refl
-
-pub width_more : (m i n : ℕ) → i < m → 10 ≤ n → (i + 1) + width_from (m - (i + 1)) (n / 10) ≡ i + width_from (m - i) n
-width_more m i n h l =
-    let k : m - i ≡ suc (m - (i + 1)) = omega arith in
-    let w = width_from (m - (i + 1)) (n / 10) in
-    let a : (i + 1) + w ≡ i + suc w = omega arith in
-    a ∙ ap (λ (z : ℕ). i + z) (sym (ap (λ (z : ℕ). width_from z n) k ∙ more (m - (i + 1)) n ∙ if_false (ltb n 10) 1 (suc w) (le-ltb n 10 l)))
-
-pub width_last : (m i n : ℕ) → i < m → n < 10 → width_from (m - i) n ≡ 1
-width_last m i n h l =
-    let k : m - i ≡ suc (m - (i + 1)) = omega arith in
-    ap (λ (z : ℕ). width_from z n) k ∙ more (m - (i + 1)) n ∙ if_true (ltb n 10) 1 (suc (width_from (m - (i + 1)) (n / 10))) (lt-ltb n 10 l)
-
-pub width_over : (m i n : ℕ) → m ≤ i → width_from (m - i) n ≡ 1
-width_over m i n h = let k : m - i ≡ 0 = omega arith in ap (λ (z : ℕ). width_from z n) k ∙ none n
+width_is zero n zero h l u = refl
+width_is zero n (suc k) h l u = absurd (omega (arith, h))
+width_is (suc m) n zero h l u = width_one m n u
+width_is (suc m) n (suc k) h l u =
+    let l2 : 10 ^ k * 10 ≤ n = subst (λ (z : ℕ). z ≤ n) (pow-suc 10 k) l in
+    let u2 : n < 10 * (10 ^ k * 10) = subst (λ (z : ℕ). n < 10 * z) (pow-suc 10 k) u in
+    let w = width_is m (n / 10) k (omega (arith, h)) (omega arith) (omega arith) in
+    simp (le-ltb n 10 (omega arith)) (omega (arith, w))
 
 -- one text behind another
 set_over : (xs : List ℕ) (a b : ℕ) → a < length xs → set xs a b ≡ overlaid xs a (b ∷ [])

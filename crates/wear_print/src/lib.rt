@@ -13,16 +13,10 @@ use wear::{Report, Tally};
 fn width(n: u64) -> usize
     ensures { (result ≡ width_of n) × (result ≤ 20) }
 {
-    let mut rest = n;
-    let mut i = 1;
-    while i < 20 {
-        if rest < 10 {
-            return i;
-        }
-        rest = rest / 10;
-        i += 1;
+    match n.checked_ilog10() {
+        Some(k) => k as usize + 1,
+        None => 1,
     }
-    i
 }
 
 // A space and a number from a place on; the place behind it.

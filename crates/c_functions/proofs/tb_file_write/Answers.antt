@@ -1,9 +1,12 @@
-use mathlib.Core.Path.{ap, ◌∙◌}
-use Rattle.file_codec.specs.declared.Written.{Written}
-use Rattle.c_records.specs.Records.{written_out}
+use mathlib.Core.Path.{◌∙◌}
+use lib.ListN.{length}
+use Rattle.file_codec.specs.File.{limit, in_room, writer_of}
+use Rattle.c_records.proofs.Outcomes.{sized_same}
 use Rattle.c_functions.specs.Calls.{written_of, file_left}
 use Rattle.c_functions.proofs.tb_file_write.Goals as goal
 
 pub returns : goal.returns
 unfolding written_of file_left
-returns c = record { result = c.written_out.ensures ∙ ap (λ (x : Written). written_out x) c.write-written.ensures.result; file_left = c.write-written.ensures.out_left }
+returns c =
+    let r = c.write-answer in
+    record { result = c.sized_out.ensures ∙ sized_same r.result (in_room (length c.args.file.now) (writer_of limit c.args.letter c.args.payload.now)) r.ensures.told; file_left = r.ensures.out_left }

@@ -47,21 +47,20 @@ closed d s ys promised zs i l m w xs walk bytes =
       array_returned d s ys promised zs few xs q,
     )
 
-pub loop-i-preserved : goal.loop-i-preserved
-loop-i-preserved c =
-    let a = c.args in let l = c.loop-i in let v = l.invariant in let g = c.gone_on-w.result in
+pub loop-r-preserved : goal.loop-r-preserved
+loop-r-preserved c =
+    let a = c.args in let l = c.loop-r in let v = l.invariant in let g = c.gone_on-w.result in
     let w₀ = walk_from (device_in a.device) (state_in a.state) (length a.array.now) in
     let len : length a.array.now ≡ length l.array = omega arith in
     let e = c.gone_on-w.ensures (subst (λ (k : ℕ). Sized l.w.device l.w.units k) len v.sized) in
     record {
-      within = omega arith;
-      walk = e.0 ∙ next_walk a.array.now w₀ a.list.now l.i _ c.loop-i-test.true (walk_in l.w) l.array v.walk v.bytes;
-      bytes = e.1 ∙ next_bytes a.array.now w₀ a.list.now l.i _ c.loop-i-test.true (walk_in l.w) l.array v.walk v.bytes;
+      walk = e.0 ∙ next_walk a.array.now w₀ a.list.now l.r-index _ c.loop-r-test.true (walk_in l.w) l.array v.walk v.bytes;
+      bytes = e.1 ∙ next_bytes a.array.now w₀ a.list.now l.r-index _ c.loop-r-test.true (walk_in l.w) l.array v.walk v.bytes;
       sized = subst (λ (k : ℕ). Sized g.device g.units k) (sym len) e.2;
     }
 
 pub returns : goal.returns
 returns c =
-    let a = c.args in let l = c.loop-i in let v = l.invariant in let e = c.ended.ensures in
-    let r = closed a.device a.state a.list.now a.promised.now a.array.now l.i c.loop-i-test.false (omega (arith, v.within, l.auto.i-fits)) (walk_in l.w) l.array v.walk v.bytes in
+    let a = c.args in let l = c.loop-r in let v = l.invariant in let e = c.ended.ensures in
+    let r = closed a.device a.state a.list.now a.promised.now a.array.now l.r-index c.loop-r-test.false (omega arith) (walk_in l.w) l.array v.walk v.bytes in
     (e.0 ∙ r.0, e.1 ∙ r.1)

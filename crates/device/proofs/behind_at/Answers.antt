@@ -1,45 +1,15 @@
-use mathlib.Core.Path.{◌≡◌}
+-- `device::behind_at` meets its contract: the blocks after block k, none from 6 on.
+use Rattle.std.proofs.Common.{◌≡◌, ◌∙◌, ap, ℕ, ◌+◌, ◌-◌, take, drop, length}
 use native.Mathlib.Omega.{arith}
-use Rattle.device.specs.Parts.{lengths_of, size_in, offset_in, length_in}
-use Rattle.device.proofs.Cover.{none_behind}
+use Prim.Native.Nat.{min}
+use Rattle.device.specs.Blocks.{units_of_all}
+use Rattle.device.specs.Parts.{offset_in, length_in, size_in}
+use Rattle.device.proofs.Cover.{after_least}
 use Rattle.device.proofs.behind_at.Goals as goal
 
-pub returns-then-k-gt5 : goal.returns-then-k-gt5
-unfolding size_in offset_in length_in
-returns-then-k-gt5 c = let a = c.args in let h = none_behind (lengths_of a.s) a.k (omega arith) in omega arith
-
-pub returns-then-k-gt4 : goal.returns-then-k-gt4
-unfolding size_in offset_in length_in
-returns-then-k-gt4 c =
-    let e : c.args.k ≡ 5 = omega arith in
-    rw e (omega arith)
-
-pub returns-then-k-gt3 : goal.returns-then-k-gt3
-unfolding size_in offset_in length_in
-returns-then-k-gt3 c =
-    let e : c.args.k ≡ 4 = omega arith in
-    rw e (omega arith)
-
-pub returns-then-k-gt2 : goal.returns-then-k-gt2
-unfolding size_in offset_in length_in
-returns-then-k-gt2 c =
-    let e : c.args.k ≡ 3 = omega arith in
-    rw e (omega arith)
-
-pub returns-then-k-gt1 : goal.returns-then-k-gt1
-unfolding size_in offset_in length_in
-returns-then-k-gt1 c =
-    let e : c.args.k ≡ 2 = omega arith in
-    rw e (omega arith)
-
-pub returns-then-k-gt0 : goal.returns-then-k-gt0
-unfolding size_in offset_in length_in
-returns-then-k-gt0 c =
-    let e : c.args.k ≡ 1 = omega arith in
-    rw e (omega arith)
-
 pub returns : goal.returns
-unfolding size_in offset_in length_in
+unfolding offset_in length_in size_in
 returns c =
-    let e : c.args.k ≡ 0 = omega arith in
-    rw e (omega arith)
+    let ls = c.args.s.lengths in
+    let e : c.least-from.result ≡ min (c.args.k + 1) (length ls) = omega arith in
+    c.units_of_all.ensures ∙ ap (λ (n : ℕ). units_of_all (take (length ls - n) (drop n ls))) e ∙ after_least ls c.args.k

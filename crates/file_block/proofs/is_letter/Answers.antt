@@ -1,7 +1,9 @@
 -- `file_block::is_letter` meets its contract.
-use Rattle.file_block.specs.Block.{is_letter}
+use Rattle.std.proofs.Common.{◌∙◌}
+use Rattle.file_block.specs.Block.{is_letter, letters}
+use Rattle.file_block.proofs.Walks.{any_within}
 use Rattle.file_block.proofs.is_letter.Goals as goal
 
 pub returns : goal.returns
 unfolding is_letter
-returns c = simp c.one_of.ensures
+returns c = c.contains.ensures.value ∙ any_within c.args.x letters

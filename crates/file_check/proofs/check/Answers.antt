@@ -1,6 +1,5 @@
 -- `check` meets its contract: the part that is handed over is the first 510 bytes.
 use mathlib.Core.Path.{◌∙◌, ap}
-use Prim.Native.Nat.{◌-◌}
 use Rattle.file_check.specs.Check.{check_of}
 use Rattle.file_check.proofs.Sums.{part_first}
 use Rattle.file_check.proofs.check.Goals as goal

@@ -4,7 +4,7 @@ use mathlib.Core.List.{List, ◌++◌, append-nil}
 use Prim.Native.Nat.{ℕ, ◌-◌, ◌+◌, ◌*◌, min}
 use native.Mathlib.Omega.{arith}
 use lib.ListN.{length, take, drop}
-use borrow.Rule.Slice.PartMut.{same_len_mid, put_mid, mid_of}
+use borrow.Rule.Slice.PartMut.{put_mid, mid_of}
 use Rattle.common.specs.Lists.{copied, overwritten}
 use lib.Seq.{drop-length}
 use Rattle.file_codec.specs.File.{places_of}
@@ -15,43 +15,7 @@ pub loop-i-init : goal.loop-i-init
 loop-i-init c =
     let a = c.args in
     let z : 0 ≡ min 0 (length a.out.now) = omega arith in
-    (omega arith, refl, refl, ap (λ (k : ℕ). overwritten k (places_of a.n a.file.now) a.out.now) z, z)
-
-pub overflow_add-to : goal.overflow_add-to
-overflow_add-to c = omega arith
-
-pub overflow_mul-from : goal.overflow_mul-from
-overflow_mul-from c = omega arith
-
-pub overflow_add-from : goal.overflow_add-from
-overflow_add-from c = omega arith
-
-pub overflow_add-stop : goal.overflow_add-stop
-overflow_add-stop c = omega arith
-
-pub slice_bounds-copy-count : goal.slice_bounds-copy-count
-slice_bounds-copy-count c = omega arith
-
-pub slice_bounds-copy-start : goal.slice_bounds-copy-start
-slice_bounds-copy-start c = omega arith
-
-pub slice_bounds-copy-end : goal.slice_bounds-copy-end
-slice_bounds-copy-end c = omega arith
-
-pub slice_bounds-copy-count-in-loop-i : goal.slice_bounds-copy-count-in-loop-i
-slice_bounds-copy-count-in-loop-i c = omega arith
-
-pub slice_bounds-copy-start-in-loop-i : goal.slice_bounds-copy-start-in-loop-i
-slice_bounds-copy-start-in-loop-i c = omega arith
-
-pub slice_bounds-copy-end-in-loop-i : goal.slice_bounds-copy-end-in-loop-i
-slice_bounds-copy-end-in-loop-i c = omega arith
-
-pub overflow_add-i : goal.overflow_add-i
-overflow_add-i c = omega arith
-
-pub loop-i-smaller : goal.loop-i-smaller
-loop-i-smaller c = omega arith
+    (ap (λ (k : ℕ). overwritten k (places_of a.n a.file.now) a.out.now) z, z)
 
 pub loop-i-preserved : goal.loop-i-preserved
 loop-i-preserved c =
@@ -67,7 +31,7 @@ loop-i-preserved c =
     let d = r - 505 * i in
     let P = places_of n f in
     let b : min (505 * i) (length s) ≡ 505 * i = omega arith in
-    let o : l.out ≡ overwritten (505 * i) P s = l.invariant.3 ∙ ap (λ (k : ℕ). overwritten k P s) b in
+    let o : l.out ≡ overwritten (505 * i) P s = l.invariant.0 ∙ ap (λ (k : ℕ). overwritten k P s) b in
     let w : 512 * i + 5 + 505 - (512 * i + 5) ≡ 505 = omega arith in
     let y : p.new.dst ≡ copied (mid_of (505 * i) d (overwritten (505 * i) P s)) (take 505 (drop (512 * i + 5) f)) =
     p.ensures
@@ -75,18 +39,12 @@ loop-i-preserved c =
     ∙ ap (λ (x : List ℕ). copied (mid_of (505 * i) d x) (take (512 * i + 5 + 505 - (512 * i + 5)) (drop (512 * i + 5) f))) o
     ∙ ap (λ (k : ℕ). copied (mid_of (505 * i) d (overwritten (505 * i) P s)) (take k (drop (512 * i + 5) f))) w in
     let u : 505 * i + d ≡ min (505 * (i + 1)) (length s) = omega arith in (
-      omega arith,
-      refl,
-      same_len_mid l.to (r - l.to) l.out p.new.dst p.auto.dst ∙ l.invariant.2,
       ap (λ (k : ℕ). put_mid k (r - k) l.out p.new.dst) at
           ∙ ap (λ (x : List ℕ). put_mid (505 * i) d x p.new.dst) o
           ∙ unpacked i n d f s p.new.dst (omega arith) (omega arith) (omega arith) (omega arith) (omega arith) y
           ∙ ap (λ (k : ℕ). overwritten k P s) u,
       omega arith,
     )
-
-pub shape_of-out : goal.shape_of-out
-shape_of-out c = omega arith
 
 pub returns : goal.returns
 returns c =
@@ -95,4 +53,4 @@ returns c =
     let s = a.out.now in
     let P = places_of a.n a.file.now in
     let m : min (505 * l.i) (length s) ≡ length s = omega arith in
-    l.invariant.3 ∙ ap (λ (k : ℕ). overwritten k P s) m ∙ ap (λ (x : List ℕ). take (length s) P ++ x) (drop-length s) ∙ append-nil (take (length s) P)
+    l.invariant.0 ∙ ap (λ (k : ℕ). overwritten k P s) m ∙ ap (λ (x : List ℕ). take (length s) P ++ x) (drop-length s) ∙ append-nil (take (length s) P)

@@ -4,7 +4,7 @@ use mathlib.Core.List.{◌++◌}
 use Prim.Native.Nat.{ℕ, ◌-◌, ◌+◌, ◌*◌, min}
 use native.Mathlib.Omega.{arith}
 use lib.ListN.{length, take, drop}
-use borrow.Rule.Slice.PartMut.{same_len_mid, mid_of}
+use borrow.Rule.Slice.PartMut.{mid_of}
 use Rattle.file_codec.specs.Layout.{block_written}
 use Rattle.file_codec.specs.File.{blocks_of}
 use Rattle.file_writer.proofs.SliceParts.{packed, behind, further, all_packed}
@@ -14,43 +14,7 @@ pub loop-i-init : goal.loop-i-init
 loop-i-init c =
     let a = c.args in
     let z : a.n - 0 ≡ a.n = omega arith in
-    (omega arith, omega arith, ap (λ (k : ℕ). blocks_of k a.letter 0 a.n a.payload.now) z, refl, omega arith)
-
-pub overflow_mul-to : goal.overflow_mul-to
-overflow_mul-to c = omega arith
-
-pub overflow_add-from : goal.overflow_add-from
-overflow_add-from c = omega arith
-
-pub slice_bounds-put_block-count : goal.slice_bounds-put_block-count
-slice_bounds-put_block-count c = omega arith
-
-pub slice_bounds-put_block-start : goal.slice_bounds-put_block-start
-slice_bounds-put_block-start c = omega arith
-
-pub slice_bounds-put_block-end : goal.slice_bounds-put_block-end
-slice_bounds-put_block-end c = omega arith
-
-pub overflow_cast-i : goal.overflow_cast-i
-overflow_cast-i c = omega arith
-
-pub overflow_cast-n : goal.overflow_cast-n
-overflow_cast-n c = omega arith
-
-pub slice_bounds-put_block-count-in-loop-i : goal.slice_bounds-put_block-count-in-loop-i
-slice_bounds-put_block-count-in-loop-i c = omega arith
-
-pub slice_bounds-put_block-start-in-loop-i : goal.slice_bounds-put_block-start-in-loop-i
-slice_bounds-put_block-start-in-loop-i c = omega arith
-
-pub slice_bounds-put_block-end-in-loop-i : goal.slice_bounds-put_block-end-in-loop-i
-slice_bounds-put_block-end-in-loop-i c = omega arith
-
-pub overflow_add-i : goal.overflow_add-i
-overflow_add-i c = omega arith
-
-pub loop-i-smaller : goal.loop-i-smaller
-loop-i-smaller c = omega arith
+    (ap (λ (k : ℕ). blocks_of k a.letter 0 a.n a.payload.now) z, refl, omega arith)
 
 pub loop-i-preserved : goal.loop-i-preserved
 loop-i-preserved c =
@@ -64,18 +28,13 @@ loop-i-preserved c =
     let s : e ≡ min (505 * i + 505) (length x) = c.least-stop.ensures ∙ ap (λ (k : ℕ). min (k + 505) (length x)) at in
     let y : p.new.out ≡ block_written a.letter i a.n (take (e - 505 * i) (drop (505 * i) x)) ++ drop 512 (mid_of (512 * i) (length l.out - 512 * i) l.out) =
     p.ensures ∙ ap (λ (k : ℕ). block_written a.letter i a.n (take (e - k) (drop k x)) ++ drop 512 (mid_of (512 * i) (length l.out - 512 * i) l.out)) at in (
-      omega arith,
-      same_len_mid (512 * i) (length l.out - 512 * i) l.out p.new.out p.auto.out ∙ l.invariant.1,
-      packed a.letter i a.n e x l.out p.new.out (omega arith) (omega arith) s y ∙ l.invariant.2,
-      behind a.letter i a.n e x l.out p.new.out (omega arith) (omega arith) s y ∙ further i l.out a.out.now l.invariant.3,
+      packed a.letter i a.n e x l.out p.new.out (omega arith) (omega arith) s y ∙ l.invariant.0,
+      behind a.letter i a.n e x l.out p.new.out (omega arith) (omega arith) s y ∙ further i l.out a.out.now l.invariant.1,
       omega arith,
     )
-
-pub shape_of-out : goal.shape_of-out
-shape_of-out c = omega arith
 
 pub returns : goal.returns
 returns c =
     let l = c.loop-i in
     let a = c.args in
-    all_packed a.letter l.i a.n a.payload.now l.out a.out.now (blocks_of a.n a.letter 0 a.n a.payload.now) l.invariant.0 (omega arith) l.invariant.2 l.invariant.3
+    all_packed a.letter l.i a.n a.payload.now l.out a.out.now (blocks_of a.n a.letter 0 a.n a.payload.now) (omega arith) (omega arith) l.invariant.0 l.invariant.1

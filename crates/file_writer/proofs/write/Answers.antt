@@ -4,21 +4,20 @@ use mathlib.Core.List.{◌++◌}
 use Prim.Native.Nat.{ℕ, ◌*◌}
 use native.Mathlib.Omega.{arith}
 use lib.ListN.{length, drop}
-use borrow.Author.Tests.{not-true, not-false}
-use Rattle.file_codec.specs.declared.Written.TheVariants.{Wrote}
-use Rattle.file_codec.specs.File.{limit, refused, made, in_room, left_in, count_of, blocks_of, file_of, writer_of, written_as}
+use Rattle.file_check.specs.declared.refusal.FileRefusal.TheVariants.{Letter, Payload, Room}
+use Rattle.file_codec.specs.File.{limit, refused, made, in_room, left_in, count_of, blocks_of, file_of, writer_of}
 use Rattle.file_codec.proofs.Sizes.{blocks_length}
-use Rattle.file_codec.proofs.Told.{written_too}
+use Rattle.file_codec.proofs.Told.{refused_too, made_too}
 use Rattle.file_codec.proofs.Outcomes.{payload_right, writer_32, writer_36, writer_made, room_37, room_made}
 use Rattle.file_writer.proofs.write.Goals as goal
 
-pub returns-then-not-known : goal.returns-then-not-known
-returns-then-not-known c =
+pub returns-then-not-is_letter : goal.returns-then-not-is_letter
+returns-then-not-is_letter c =
     let a = c.args in
     let out = a.out.now in
     let q : in_room (length out) (writer_of limit a.letter a.payload.now) ≡ refused 32 =
-    ap (in_room (length out)) (writer_32 limit a.letter a.payload.now (sym c.is_letter-known.ensures ∙ c.if-not-known.true)) in
-    let both = written_too (in_room (length out) (writer_of limit a.letter a.payload.now)) (sym (ap written_as q)) (sym (ap (left_in out) q)) in record { result = both.0; told = both.1.0; out_left = both.1.1 }
+    ap (in_room (length out)) (writer_32 limit a.letter a.payload.now (sym c.is_letter.ensures ∙ c.if-not-is_letter.true)) in
+    let both = refused_too Letter (in_room (length out) (writer_of limit a.letter a.payload.now)) q in record { result = both.0; told = both.1; out_left = sym (ap (left_in out) q) }
 
 pub returns-then-payload_wrong : goal.returns-then-payload_wrong
 returns-then-payload_wrong c =
@@ -26,8 +25,8 @@ returns-then-payload_wrong c =
     let out = a.out.now in
     let q : in_room (length out) (writer_of limit a.letter a.payload.now) ≡ refused 36 =
     ap (in_room (length out))
-    (writer_36 limit a.letter a.payload.now (sym c.is_letter-known.ensures ∙ c.if-not-known.false) (sym c.payload_wrong.ensures ∙ c.if-payload_wrong.true)) in
-    let both = written_too (in_room (length out) (writer_of limit a.letter a.payload.now)) (sym (ap written_as q)) (sym (ap (left_in out) q)) in record { result = both.0; told = both.1.0; out_left = both.1.1 }
+    (writer_36 limit a.letter a.payload.now (sym c.is_letter.ensures ∙ c.if-not-is_letter.false) (sym c.payload_wrong.ensures ∙ c.if-payload_wrong.true)) in
+    let both = refused_too Payload (in_room (length out) (writer_of limit a.letter a.payload.now)) q in record { result = both.0; told = both.1; out_left = sym (ap (left_in out) q) }
 
 pub blocks_for-n-requires : goal.blocks_for-n-requires
 blocks_for-n-requires c =
@@ -42,9 +41,9 @@ returns-then-out-whole c =
     let l : length (file_of a.letter a.payload.now) ≡ 512 * n = blocks_length n a.letter 0 n a.payload.now in
     let q : in_room (length out) (writer_of limit a.letter a.payload.now) ≡ refused 37 =
     ap (in_room (length out))
-    (writer_made limit a.letter a.payload.now (sym c.is_letter-known.ensures ∙ c.if-not-known.false) (sym c.payload_wrong.ensures ∙ c.if-payload_wrong.false))
+    (writer_made limit a.letter a.payload.now (sym c.is_letter.ensures ∙ c.if-not-is_letter.false) (sym c.payload_wrong.ensures ∙ c.if-payload_wrong.false))
     ∙ room_37 (length out) (file_of a.letter a.payload.now) (omega (arith, c.if-out-whole.true)) in
-    let both = written_too (in_room (length out) (writer_of limit a.letter a.payload.now)) (sym (ap written_as q)) (sym (ap (left_in out) q)) in record { result = both.0; told = both.1.0; out_left = both.1.1 }
+    let both = refused_too Room (in_room (length out) (writer_of limit a.letter a.payload.now)) q in record { result = both.0; told = both.1; out_left = sym (ap (left_in out) q) }
 
 pub pack-requires : goal.pack-requires
 pack-requires c =
@@ -65,10 +64,14 @@ returns c =
     let w : length (file_of a.letter a.payload.now) ≡ 512 * c.blocks_for-n.result = omega arith in
     let q : in_room (length out) (writer_of limit a.letter a.payload.now) ≡ made (file_of a.letter a.payload.now) =
     ap (in_room (length out))
-    (writer_made limit a.letter a.payload.now (sym c.is_letter-known.ensures ∙ c.if-not-known.false) (sym c.payload_wrong.ensures ∙ c.if-payload_wrong.false))
+    (writer_made limit a.letter a.payload.now (sym c.is_letter.ensures ∙ c.if-not-is_letter.false) (sym c.payload_wrong.ensures ∙ c.if-payload_wrong.false))
     ∙ room_made (length out) (file_of a.letter a.payload.now) (omega (arith, c.if-out-whole.false)) in
-    let both = written_too (in_room (length out) (writer_of limit a.letter a.payload.now)) (sym (ap written_as q ∙ ap Wrote w))
-    (u.ensures
-    ∙ ap (λ (j : ℕ). blocks_of j a.letter 0 j a.payload.now ++ drop (512 * c.blocks_for-n.result) out) k
-    ∙ ap (λ (j : ℕ). file_of a.letter a.payload.now ++ drop j out) (sym w)
-    ∙ sym (ap (left_in out) q)) in record { result = both.0; told = both.1.0; out_left = both.1.1 }
+    let both = made_too (512 * c.blocks_for-n.result) (file_of a.letter a.payload.now) (in_room (length out) (writer_of limit a.letter a.payload.now)) q w in
+    record {
+      result = both.0;
+      told = both.1;
+      out_left = u.ensures
+          ∙ ap (λ (j : ℕ). blocks_of j a.letter 0 j a.payload.now ++ drop (512 * c.blocks_for-n.result) out) k
+          ∙ ap (λ (j : ℕ). file_of a.letter a.payload.now ++ drop j out) (sym w)
+          ∙ sym (ap (left_in out) q);
+    }

@@ -11,7 +11,7 @@ use Rattle.units.proofs.Widths.{units_length}
 use Rattle.loader_walk.specs.Walks.{rises_in}
 use Rattle.loader_blocks.specs.Blocks.{alike}
 use Rattle.loader_blocks.proofs.Bytewise.{rises_units}
-use Rattle.loader_blocks.proofs.Lent.{held_long, room_long, whole, found_so, read_is, none_found, none_read}
+use Rattle.loader_blocks.proofs.Lent.{held_long, room_long, few, whole, found_so, read_is, none_found, none_read}
 use Rattle.loader_blocks.proofs.look_at_block.Goals as goal
 
 pub verify_all-m-requires : goal.verify_all-m-requires
@@ -21,7 +21,7 @@ verify_all-m-requires c =
     let w = a.wanted.now in
     let s = a.scratch.now in
     let e : alike a.word (length h) (length w) (length s) ≡ true = sym c.are_alike.ensures ∙ c.if-are_alike.true in
-    (held_long a.word h w s e, room_long a.word h w s e)
+    (held_long a.word h w s e, room_long a.word h w s e, few a.word h w s e)
 
 pub rises-requires : goal.rises-requires
 rises-requires c =

@@ -1,6 +1,6 @@
 -- `loader_blocks::must_rise` meets its contract.
 use mathlib.Core.Path.{◌≡◌, sym, ◌∙◌}
-use mathlib.Core.Bool.{true, false}
+use mathlib.Core.Bool.{true}
 use lib.ListN.{length}
 use Rattle.loader_blocks.specs.Blocks.{alike}
 use Rattle.loader_blocks.proofs.Bytewise.{rises_units}

@@ -5,7 +5,7 @@ use Prim.Native.Nat.{ℕ}
 use lib.ListN.{length}
 use Rattle.units.specs.Units.{torn}
 use Rattle.loader_blocks.specs.Blocks.{alike}
-use Rattle.loader_blocks.proofs.Lent.{spare_same, held_long, room_long, whole, met_is, seen_is, none_met, none_seen}
+use Rattle.loader_blocks.proofs.Lent.{spare_same, held_long, room_long, few, whole, met_is, seen_is, none_met, none_seen}
 use Rattle.loader_blocks.proofs.verify_block.Goals as goal
 
 pub verify_all-requires : goal.verify_all-requires
@@ -15,7 +15,7 @@ verify_all-requires c =
     let w = a.wanted.now in
     let s = a.scratch.now in
     let e : alike a.word (length h) (length w) (length s) ≡ true = sym c.are_alike.ensures ∙ c.if-are_alike.true in
-    (held_long a.word h w s e, room_long a.word h w s e)
+    (held_long a.word h w s e, room_long a.word h w s e, few a.word h w s e)
 
 pub returns-then-are_alike : goal.returns-then-are_alike
 returns-then-are_alike c =

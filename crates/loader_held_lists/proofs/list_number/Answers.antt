@@ -1,10 +1,5 @@
 use mathlib.Core.Path.{sym, ◌∙◌}
 use Rattle.loader_held_lists.specs.Listings.{held_number, room_number}
-use Rattle.loader_held_lists.proofs.list_number.Reads as reads
-use Rattle.loader_held_lists.proofs.list_number.Lts as lts
-use Rattle.loader_held_lists.proofs.room_number.Reads as room-number-reads
-use Rattle.loader_held_lists.proofs.some_loaded.Reads as some-loaded-reads
-use Rattle.loader_held_lists.proofs.some_past.Reads as some-past-reads
 use Rattle.loader_held_lists.proofs.list_number.Goals as goal
 
 -- src/lib.rt:99:9

@@ -1,9 +1,6 @@
 use borrow.Author.Tests.{lt-ltb, le-ltb}
 use mathlib.Core.Path.{sym, ◌∙◌}
 use Rattle.loader_held_lists.specs.Listings.{room_number}
-use Rattle.loader_held_lists.proofs.room_number.Reads as reads
-use Rattle.loader_held_lists.proofs.room_number.Lts as lts
-use Rattle.loader_held_lists.proofs.short_room.Reads as short-room-reads
 use Rattle.loader_held_lists.proofs.room_number.Goals as goal
 
 -- src/lib.rt:69:9

@@ -4,11 +4,6 @@ use Prim.Native.Nat.{ℕ, ◌+◌}
 use lib.Dec.{ltb, leb}
 use Rattle.device.specs.Parts.{start_of, length_of}
 use Rattle.loader_held_lists.specs.Listings.{some_of, in_loaded}
-use Rattle.loader_held_lists.proofs.some_loaded.Reads as reads
-use Rattle.loader_held_lists.proofs.some_loaded.Lts as lts
-use Rattle.device.proofs.start.Reads as start-reads
-use Rattle.loader_held_lists.proofs.end_of.Reads as end-of-reads
-use Rattle.loader_held_lists.proofs.some_lies.Reads as some-lies-reads
 use Rattle.loader_held_lists.proofs.some_loaded.Goals as goal
 
 -- src/lib.rt:83:1

@@ -2,10 +2,6 @@ use mathlib.Core.Path.{ap, ◌∙◌}
 use Prim.Native.Nat.{ℕ}
 use lib.Dec.{leb}
 use Rattle.loader_held_lists.specs.Listings.{some_of, past_array}
-use Rattle.loader_held_lists.proofs.some_past.Reads as reads
-use Rattle.loader_held_lists.proofs.some_past.Lts as lts
-use Rattle.device.proofs.size.Reads as size-reads
-use Rattle.loader_held_lists.proofs.some_lies.Reads as some-lies-reads
 use Rattle.loader_held_lists.proofs.some_past.Goals as goal
 
 -- src/lib.rt:77:1

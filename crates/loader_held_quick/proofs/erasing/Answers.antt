@@ -1,6 +1,5 @@
 -- `loader_held_quick::erasing` meets its contract.
 use mathlib.Core.Path.{◌≡◌, sym, ◌∙◌}
-use mathlib.Core.Bool.{true, false}
 use native.Mathlib.Omega.{arith}
 use Rattle.common.proofs.Choice.{if_true, if_false}
 use Rattle.loader_held_claims.specs.HeldMade.{interrupts, added_in}

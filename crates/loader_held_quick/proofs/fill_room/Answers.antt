@@ -1,7 +1,7 @@
 -- `loader_held_quick::fill_room` meets its contract: the first units of the room are those read.
 use mathlib.Core.Path.{◌≡◌, refl, sym, ap, ◌∙◌}
 use mathlib.Core.List.{List}
-use Prim.Native.Nat.{ℕ, ◌-◌, ◌<◌}
+use Prim.Native.Nat.{ℕ, ◌<◌}
 use native.Mathlib.Omega.{arith}
 use lib.ListN.{length, get_or, set}
 use Rattle.common.specs.Lists.{overwritten}
@@ -13,13 +13,7 @@ use Rattle.loader_held_claims.proofs.Interrupting.{read_length, read_place}
 use Rattle.loader_held_quick.proofs.fill_room.Goals as goal
 
 pub loop-i-init : goal.loop-i-init
-loop-i-init c = (omega arith, refl, refl, refl, refl)
-
-pub bounds-addresses-i : goal.bounds-addresses-i
-bounds-addresses-i c = omega (arith, c.loop-i-test.true, c.loop-i.invariant.1)
-
-pub loop-i-smaller : goal.loop-i-smaller
-loop-i-smaller c = omega (arith, c.loop-i-test.true)
+loop-i-init c = (refl, refl)
 
 pub loop-i-preserved : goal.loop-i-preserved
 loop-i-preserved c =
@@ -33,18 +27,12 @@ loop-i-preserved c =
     let bs = a.addresses.now in
     let R : List ℕ = units w a.room.now in
     let i = l.i in
-    let h : i < length bs = omega (arith, t, l.invariant.1) in
+    let h : i < length bs = t in
     let Z : List ℕ = read_at X bs in
     let v : carried w g.result ≡ get_or Z i 0 = carried_cell w g.result g.ensures.1 ∙ g.ensures.0 ∙ sym (read_place X bs i h) in (
-      omega (arith, t),
-      l.invariant.1,
-      p.auto.s ∙ l.invariant.2,
-      p.ensures.s_left ∙ (λ j. set (l.invariant.3 j) i (v j)) ∙ overwritten_more Z R i (let q = read_length X bs in omega arith) (let q = c.requires in omega arith),
-      p.ensures.s_spare ∙ l.invariant.4,
+      p.ensures.s_left ∙ (λ j. set (l.invariant.0 j) i (v j)) ∙ overwritten_more Z R i (let q = read_length X bs in omega arith) (let q = c.requires in omega arith),
+      p.ensures.s_spare ∙ l.invariant.1,
     )
-
-pub shape_of-room : goal.shape_of-room
-shape_of-room c = c.loop-i.invariant.2
 
 pub returns : goal.returns
 returns c =
@@ -52,5 +40,5 @@ returns c =
     let a = c.args in
     let w = a.word in
     let bs = a.addresses.now in
-    let e : l.i ≡ length bs = omega (arith, c.loop-i-test.false, l.invariant.0, l.invariant.1) in
-    record { room_left = l.invariant.3 ∙ ap (λ (n : ℕ). overwritten n (read_at (units w a.array.now) bs) (units w a.room.now)) e; room_spare = l.invariant.4 }
+    let e : l.i ≡ length bs = omega (arith, c.loop-i-test.false) in
+    record { room_left = l.invariant.0 ∙ ap (λ (n : ℕ). overwritten n (read_at (units w a.array.now) bs) (units w a.room.now)) e; room_spare = l.invariant.1 }

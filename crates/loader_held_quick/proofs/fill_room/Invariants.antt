@@ -1,7 +1,5 @@
 -- `loader_held_quick::fill_room` meets its contract: the first units of the room are those read.
 use mathlib.Core.Path.{◌≡◌}
-use Prim.Native.Nat.{◌-◌, ◌≤◌}
-use lib.ListN.{length}
 use Rattle.common.specs.Lists.{overwritten}
 use Rattle.units.specs.Units.{units, spare}
 use Rattle.loader_held_claims.specs.HeldMade.{read_at}
@@ -9,11 +7,5 @@ use Rattle.loader_held_quick.proofs.fill_room.Given as goal
 
 abbrev pub invariant-loop-i : goal.invariant-loop-i
 invariant-loop-i l =
-    (l.i ≤ l.n)
-    × (l.n ≡ length l.addresses)
-    × (length l.room ≡ length l.initial.room)
-    × (units l.word l.room ≡ overwritten l.i (read_at (units l.word l.array) l.addresses) (units l.word l.initial.room))
+    (units l.word l.room ≡ overwritten l.i (read_at (units l.word l.array) l.addresses) (units l.word l.initial.room))
     × (spare l.word l.room ≡ spare l.word l.initial.room)
-
-abbrev pub decreases-loop-i : goal.decreases-loop-i
-decreases-loop-i l = l.n - l.i

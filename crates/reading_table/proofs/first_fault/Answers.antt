@@ -1,17 +1,15 @@
-use mathlib.Core.Path.{sym, ◌∙◌}
-use Prim.Native.Nat.{◌-◌, zero-le}
-use native.Mathlib.Omega.{arith}
-use Rattle.reading_table.proofs.Faulty.{fault_on, fault_stop, fault_end, fault_start}
+-- `reading_table::first_fault` meets its contract.
+use mathlib.Core.Path.{◌≡◌, ◌∙◌}
+use mathlib.Core.Bool.{true, false}
+use Rattle.std.proofs.Common.{rules, tests}
+use Rattle.std.proofs.lemmas.Iterator.{first_from_Range}
+use Rattle.reading_table.specs.Table.{good_at}
+use Rattle.reading_table.proofs.Faulty.{fault_found}
 use Rattle.reading_table.proofs.first_fault.Goals as goal
 
-pub loop-i-init : goal.loop-i-init
-loop-i-init c = (zero-le, fault_start _)
-
-pub loop-i-preserved : goal.loop-i-preserved
-loop-i-preserved c = (omega arith, fault_on _ _ _ c.loop-i-test.true (sym c.good_at-g.ensures ∙ c.if-g.true) c.loop-i.invariant.1)
-
-pub returns-else-g : goal.returns-else-g
-returns-else-g c = fault_stop _ _ _ c.loop-i-test.true (sym c.good_at-g.ensures ∙ c.if-g.false) c.loop-i.invariant.1
-
 pub returns : goal.returns
-returns c = fault_end _ _ _ c.loop-i-test.false c.loop-i.invariant.1
+returns c =
+    let p = c.args.s.now in
+    c.unwrap_or.ensures
+    ∙ fault_found p c.find.result
+    (first_from_Range _ _ _ _ (λ i. good_at p i ≡ false) (λ i. good_at p i ≡ true) c.find.ensures.ran (λ x q k. search (rules, tests)) (λ x q k. search (rules, tests)))

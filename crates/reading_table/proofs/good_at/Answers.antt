@@ -1,21 +1,16 @@
--- `reading_table::good_at` meets its contract.
-use mathlib.Core.Path.{ap₂}
-use mathlib.Core.Bool.{◌&&◌}
-use native.Mathlib.Omega.{arith}
-use borrow.Author.Tests.{eq-eqb, ne_eqb}
+use Rattle.std.proofs.Common.{arith}
+use Rattle.std.proofs.lemmas.Grind.{common_steps}
 use Rattle.reading_table.specs.Table.{good_at}
 use Rattle.reading_table.proofs.good_at.Goals as goal
 
-pub in_range_at-a-requires : goal.in_range_at-a-requires
-in_range_at-a-requires c = c.requires
-
 pub returns-then-i-eq0 : goal.returns-then-i-eq0
 unfolding good_at
-returns-then-i-eq0 c = simp (eq-eqb _ _ c.if-i-eq0.true) c.in_range_at-a.ensures
+returns-then-i-eq0 c = grind (arith, common_steps)
 
-pub climbs_at-b-requires : goal.climbs_at-b-requires
-climbs_at-b-requires c = ((let z = c.if-i-eq0.false in omega arith), c.requires)
-
-pub returns : goal.returns
+pub returns-else-i-eq0 : goal.returns-else-i-eq0
 unfolding good_at
-returns c = simp (ne_eqb _ _ c.if-i-eq0.false) (ap₂ ◌&&◌ c.in_range_at-a.ensures c.climbs_at-b.ensures)
+returns-else-i-eq0 c = grind (arith, common_steps)
+
+pub returns-else-in_range_at : goal.returns-else-in_range_at
+unfolding good_at
+returns-else-in_range_at c = grind (arith, common_steps)

@@ -1,12 +1,10 @@
-use lib.IntN.{ℤ, pos, negsuc}
-use mir.Syntax.{w32}
-use mir.ValLaws.{to_z-of_z}
-use lib.Signed.{le_z}
-use mathlib.Core.Bool.{◌&&◌}
-use mathlib.Core.Path.{ap, ap₂, ◌∙◌}
+-- `reading_table::in_range` meets its contract.
+use Rattle.std.proofs.Common.{arith}
+use Rattle.std.proofs.lemmas.Int.{ints}
+use Rattle.std.proofs.lemmas.Bool.Decides.{nat_tests}
 use Rattle.reading_table.specs.Table.{in_range}
 use Rattle.reading_table.proofs.in_range.Goals as goal
 
 pub returns : goal.returns
 unfolding in_range
-returns c = ap₂ ◌&&◌ c.at_most-a.ensures c.at_most-b.ensures ∙ ap (λ (v : ℤ). le_z (negsuc 9999) v && le_z v (pos 80000)) (to_z-of_z w32 c.args.v c.ranges.v)
+returns c = grind (arith, ints, nat_tests)

@@ -2,51 +2,35 @@
 use mathlib.Core.Path.{sym, ◌∙◌}
 use Prim.Native.Nat.{◌-◌}
 use native.Mathlib.Omega.{arith}
-use borrow.Author.Tests.{not-true}
-use Rattle.reading_table.proofs.Climbing.{climb_start, climb_on, all_climb, out_at, fall_at, no_knots}
+use borrow.Author.Tests.{eq-eqb}
+use Rattle.std.proofs.Common.{rules, tests}
+use Rattle.std.proofs.lemmas.Iterator.{YieldsList-from_range}
+use Rattle.std.proofs.lemmas.Iterator.Search.{all_from_yields_List}
+use Rattle.common.proofs.Choice.{unlike}
+use Rattle.reading_table.specs.Table.{knots}
+use Rattle.reading_table.proofs.Climbing.{climbs, climb_told, out_at, no_knots}
 use Rattle.reading_table.proofs.rising.Goals as goal
+use Rattle.reading_table.proofs.rising.Goals.{then-in_range_at, else-in_range_at}
 
 pub returns-then-n-eq0 : goal.returns-then-n-eq0
-returns-then-n-eq0 c = no_knots _ c.if-n-eq0.true
+returns-then-n-eq0 c = eq-eqb _ _ c.if-n-eq0.true ∙ no_knots _ c.if-n-eq0.true
 
-pub in_range_at-requires : goal.in_range_at-requires
-in_range_at-requires c = (let z = c.if-n-eq0.false in omega arith)
+pub returns-then-in_range_at-2 : goal.returns-then-in_range_at-2
+returns-then-in_range_at-2 c =
+    let p = c.args.s.now in
+    let z = c.if-n-eq0.false in
+    let e = c.if-in_range_at-2.true in
+    let ran = all_from_yields_List (climbs p) _ _ _ c.all.ensures.ran (YieldsList-from_range 1 (knots p) (knots p - 1) (cc) (omega arith)) (λ x b q k. search (rules, tests)) in
+    elim c.if-in_range_at.branch [
+      | then-in_range_at w ↦ climb_told p _ (omega arith) (sym c.in_range_at.ensures ∙ w.if-in_range_at.true) (sym w.in_range_at-then-in_range_at.ensures ∙ sym w.value-is ∙ e) ran
+      | else-in_range_at w ↦ absurd (unlike (sym e ∙ w.value-is ∙ w.if-in_range_at.false))
+    ]
 
-pub returns-then-not-in_range_at : goal.returns-then-not-in_range_at
-returns-then-not-in_range_at c = out_at _ _ (let z = c.if-n-eq0.false in omega arith) (sym c.in_range_at.ensures ∙ c.if-not-in_range_at.true)
-
-pub overflow_sub-n : goal.overflow_sub-n
-overflow_sub-n c = (let z = c.if-n-eq0.false in omega arith)
-
-pub in_range_at-requires-2 : goal.in_range_at-requires-2
-in_range_at-requires-2 c = (let z = c.if-n-eq0.false in omega arith)
-
-pub returns-then-not-in_range_at-2 : goal.returns-then-not-in_range_at-2
-returns-then-not-in_range_at-2 c = out_at _ _ (let z = c.if-n-eq0.false in omega arith) (sym c.in_range_at-2.ensures ∙ c.if-not-in_range_at-2.true)
-
-pub loop-i-init : goal.loop-i-init
-loop-i-init c = (omega arith, (let z = c.if-n-eq0.false in omega arith), climb_start _)
-
-pub climbs_at-g-requires : goal.climbs_at-g-requires
-climbs_at-g-requires c = (c.loop-i.invariant.0, c.loop-i-test.true)
-
-pub overflow_add-i : goal.overflow_add-i
-overflow_add-i c = (let h = c.loop-i-test.true in omega arith)
-
-pub loop-i-smaller : goal.loop-i-smaller
-loop-i-smaller c = (let h = c.loop-i-test.true in omega arith)
-
-pub loop-i-preserved : goal.loop-i-preserved
-loop-i-preserved c =
-    let v = c.loop-i.invariant in
-    let h = c.loop-i-test.true in
-    (omega arith, omega arith, climb_on _ c.loop-i.i v.0 (sym c.climbs_at-g.ensures ∙ c.if-g.true) v.2)
-
-pub returns-else-g : goal.returns-else-g
-returns-else-g c = fall_at _ c.loop-i.i c.loop-i.invariant.0 c.loop-i-test.true (sym c.climbs_at-g.ensures ∙ c.if-g.false)
-
-pub returns : goal.returns
-returns c =
-    let first = sym c.in_range_at.ensures ∙ c.if-not-in_range_at.false in
-    let last = sym c.in_range_at-2.ensures ∙ c.if-not-in_range_at-2.false in
-    all_climb _ c.loop-i.i (let h = c.loop-i-test.false in omega arith) first last c.loop-i.invariant.2
+pub returns-else-in_range_at-2 : goal.returns-else-in_range_at-2
+returns-else-in_range_at-2 c =
+    let z = c.if-n-eq0.false in
+    let e = c.if-in_range_at-2.false in
+    e ∙ elim c.if-in_range_at.branch [
+      | then-in_range_at w ↦ out_at _ _ (omega arith) (sym w.in_range_at-then-in_range_at.ensures ∙ sym w.value-is ∙ e)
+      | else-in_range_at w ↦ out_at _ 0 (omega arith) (sym c.in_range_at.ensures ∙ w.if-in_range_at.false)
+    ]

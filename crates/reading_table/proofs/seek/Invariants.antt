@@ -1,4 +1,3 @@
-use Prim.Native.Nat.{◌-◌}
 use Rattle.reading_table.specs.Search.{rounds_left}
 use Rattle.reading_table.proofs.Steps.{Halved}
 use Rattle.reading_table.proofs.seek.Given as goal

@@ -1,9 +1,12 @@
+-- `reading_table::tenths_at` meets its contract.
+use mathlib.Core.Path.{◌∙◌}
+use native.Mathlib.Omega.{arith}
 use mir.Syntax.{w16}
 use mir.ValLaws.{to_z-of_z}
-use mathlib.Core.Path.{sym, ap, ◌∙◌}
-use Rattle.reading_table.specs.Table.{signed16}
-use Rattle.reading_table.proofs.Places.{tenths_in}
+use Rattle.reading_table.proofs.Places.{tenths_read}
 use Rattle.reading_table.proofs.tenths_at.Goals as goal
 
 pub returns : goal.returns
-returns c = to_z-of_z w16 c.signed_of_16.result (record { sfits = c.signed_of_16.type_inv }) ∙ c.signed_of_16.ensures ∙ ap signed16 c.word_of_16-w.ensures ∙ sym (tenths_in _ _ c.requires)
+returns c =
+    let f = c.from_be_bytes in
+    to_z-of_z w16 f.result (record { sfits = f.type_inv }) ∙ f.ensures ∙ tenths_read _ _ _ c.requires c.type_inv.s (omega arith)

@@ -1,9 +1,12 @@
+-- `reading_table::volts_at` meets its contract.
+use mathlib.Core.Path.{◌∙◌}
+use native.Mathlib.Omega.{arith}
 use mir.Syntax.{w32}
 use mir.ValLaws.{to_z-of_z}
-use mathlib.Core.Path.{sym, ap, ◌∙◌}
-use Rattle.reading_table.specs.Table.{signed32}
-use Rattle.reading_table.proofs.Places.{volts_in}
+use Rattle.reading_table.proofs.Places.{volts_read}
 use Rattle.reading_table.proofs.volts_at.Goals as goal
 
 pub returns : goal.returns
-returns c = to_z-of_z w32 c.signed_of_32.result (record { sfits = c.signed_of_32.type_inv }) ∙ c.signed_of_32.ensures ∙ ap signed32 c.word_of_32-w.ensures ∙ sym (volts_in _ _ c.requires)
+returns c =
+    let f = c.from_be_bytes in
+    to_z-of_z w32 f.result (record { sfits = f.type_inv }) ∙ f.ensures ∙ volts_read _ _ _ c.requires c.type_inv.s (omega arith)

@@ -1,15 +1,13 @@
-use native.Mathlib.Nat.{mod-lt}
-use native.Mathlib.Omega.{arith}
+-- `reading_text::bits` meets its contract.
+use Rattle.std.proofs.Common.{arith}
+use Rattle.std.proofs.lemmas.Bool.Decides.{nat_tests}
 use Rattle.reading_text.specs.Tables.{bits_of}
 use Rattle.reading_text.proofs.bits.Goals as goal
 
-pub overflow_sub-result : goal.overflow_sub-result
-overflow_sub-result c = let a = c.args in let h = mod-lt a.n.size {m = a.top} c.requires in omega (arith, h)
-
-pub returns-then-minus : goal.returns-then-minus
+pub returns-then-n : goal.returns-then-n
 unfolding bits_of
-returns-then-minus c = simp c.if-minus.true
+returns-then-n c = grind (arith, nat_tests)
 
-pub returns : goal.returns
+pub returns-else-n : goal.returns-else-n
 unfolding bits_of
-returns c = simp c.if-minus.false
+returns-else-n c = grind (arith, nat_tests)

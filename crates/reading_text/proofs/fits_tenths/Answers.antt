@@ -1,10 +1,9 @@
+-- `reading_text::fits_tenths` meets its contract.
+use Rattle.std.proofs.Common.{arith}
+use Rattle.std.proofs.lemmas.Bool.Decides.{nat_tests}
 use Rattle.reading_text.specs.Tables.{fits_tenths}
 use Rattle.reading_text.proofs.fits_tenths.Goals as goal
 
-pub returns-then-minus : goal.returns-then-minus
-unfolding fits_tenths
-returns-then-minus c = simp c.if-minus.true
-
 pub returns : goal.returns
 unfolding fits_tenths
-returns c = simp c.if-minus.false
+returns c = grind (arith, nat_tests)

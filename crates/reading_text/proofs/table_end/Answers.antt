@@ -1,15 +1,13 @@
-use mathlib.Core.Path.{sym, ◌∙◌}
+-- `reading_text::table_end` meets its contract.
+use Rattle.std.proofs.Common.{arith}
+use Rattle.std.proofs.lemmas.Bool.Decides.{nat_tests}
 use Rattle.reading_text.specs.Tables.{table_read}
 use Rattle.reading_text.proofs.table_end.Goals as goal
 
-pub returns-then-wrong : goal.returns-then-wrong
+pub returns-then-s : goal.returns-then-s
 unfolding table_read
-returns-then-wrong c = simp c.if-wrong.true
-
-pub returns-then-is_begun : goal.returns-then-is_begun
-unfolding table_read
-returns-then-is_begun c = simp (sym c.is_begun.ensures ∙ c.if-is_begun.true, c.if-wrong.false)
+returns-then-s c = grind (arith, nat_tests)
 
 pub returns : goal.returns
 unfolding table_read
-returns c = simp (sym c.is_begun.ensures ∙ c.if-is_begun.false, c.if-wrong.false)
+returns c = grind (arith, nat_tests)

@@ -3,7 +3,6 @@ use mathlib.Core.List.{◌++◌}
 use Rattle.text.proofs.Laying.{laid_first, laid_more}
 use Rattle.text.specs.Writing.{bytes}
 use Rattle.recording_answer.specs.Lines.{heard_text, rules_text}
-use borrow.Author.Rules.{rules}
 use Rattle.recording_answer.proofs.put_seen.Goals as goal
 
 pub returns : goal.returns

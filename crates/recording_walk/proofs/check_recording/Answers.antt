@@ -34,18 +34,17 @@ closed d s ys promised zs i l m w xs walk bytes =
     let a = answers d s ys promised zs m in
     (ap₂ (λ (v : Walk) (us : List ℕ). end_of v promised us) p q ∙ a.0, q ∙ a.1)
 
-pub loop-i-preserved : goal.loop-i-preserved
-loop-i-preserved c =
-    let a = c.args in let l = c.loop-i in let v = l.invariant in let e = c.go_on-w.ensures in
+pub loop-r-preserved : goal.loop-r-preserved
+loop-r-preserved c =
+    let a = c.args in let l = c.loop-r in let v = l.invariant in let e = c.go_on-w.ensures in
     let w₀ = walk_from a.d a.s (length a.array.now) in
     record {
-      within = omega arith;
-      walk = e.0 ∙ next_walk a.array.now w₀ a.list.now l.i _ c.loop-i-test.true l.w l.array v.walk v.bytes;
-      bytes = e.1 ∙ next_bytes a.array.now w₀ a.list.now l.i _ c.loop-i-test.true l.w l.array v.walk v.bytes;
+      walk = e.0 ∙ next_walk a.array.now w₀ a.list.now l.r-index _ c.loop-r-test.true l.w l.array v.walk v.bytes;
+      bytes = e.1 ∙ next_bytes a.array.now w₀ a.list.now l.r-index _ c.loop-r-test.true l.w l.array v.walk v.bytes;
     }
 
 pub returns : goal.returns
 returns c =
-    let a = c.args in let l = c.loop-i in let v = l.invariant in let e = c.end.ensures in
-    let r = closed a.d a.s a.list.now a.promised.now a.array.now l.i c.loop-i-test.false (omega (arith, v.within, l.auto.i-fits)) l.w l.array v.walk v.bytes in
+    let a = c.args in let l = c.loop-r in let v = l.invariant in let e = c.end.ensures in
+    let r = closed a.d a.s a.list.now a.promised.now a.array.now l.r-index c.loop-r-test.false (omega arith) l.w l.array v.walk v.bytes in
     (e.0 ∙ r.0, e.1 ∙ r.1)

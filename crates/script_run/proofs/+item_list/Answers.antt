@@ -59,17 +59,17 @@ item-past_open-y-requires t c =
     let m = runs.opens_room a.text.now a.x.left a.x.at c.in-Opens.n w in
     (c.requires.0, m.0)
 
-pub item-loop-i-init : goal.item-loop-i-init
-item-loop-i-init t c =
+pub item-loop-init : goal.item-loop-init
+item-loop-init t c =
     let a = c.args in let w = sym c.word_at-w.ensures ∙ c.in-Opens.is in let n = c.in-Opens.n in
     let m = runs.opens_room a.text.now a.x.left a.x.at n w in let m1 = m.1 in let m3 = m.3 in
     let o = c.past_open-y in let o1 = ap (λ (r : Run). r.at) o.ensures in let o3 = ap (λ (r : Run). r.used) o.ensures in
-    (refl, refl, omega arith, omega arith, omega arith, omega arith, λ u. runs.rounds_none (a.depth - 1) a.text.now o.result n (n - 0) a.array.now a.residue.now a.out.now (omega arith), λ u. absurd (omega arith), refl, refl)
+    (refl, refl, omega arith, omega arith, omega arith, omega arith, λ u. runs.rounds_none (a.depth - 1) a.text.now o.result n (n - 0) a.array.now a.residue.now a.out.now (omega arith), λ u. absurd (omega arith))
 
-pub item-loop-i-preserved : goal.item-loop-i-preserved
-item-loop-i-preserved t c =
+pub item-loop-preserved : goal.item-loop-preserved
+item-loop-preserved t c =
     let a = c.args in let n = c.in-Opens.n in let o = c.past_open-y in
-    let l = c.loop-i in let y = l.y in let v = l.invariant in let v0 = v.0 in let v9 = v.9 in let lt : l.i < n = c.loop-i-test.true in
+    let l = c.loop in let y = l.y in let v = l.invariant in let v0 = v.0 in let v9 = l.auto.out in let lt : l.counter < n = c.loop-test.true in
     let k = c.list-z in let q = k.result in let g = k.ensures.ahead in let g1 = g.1 in let g2 = g.2 in
     let len : length k.new.out ≡ length l.out = omega arith in let wide : length k.new.array ≡ length l.array = omega arith in
     let b = c.back-y in let e = b.ensures in let e3 = ap (λ (r : Run). r.used) e in (
@@ -79,27 +79,25 @@ item-loop-i-preserved t c =
       g.0,
       omega arith,
       omega arith,
-      λ u. runs.rounds_one (a.depth - 1) a.text.now o.result y q b.result n (n - l.i) (n - (l.i + 1)) a.array.now a.residue.now a.out.now l.array l.out k.new.array k.new.out (v.6 lt) k.ensures.reads e (omega arith) (omega arith) len,
-      λ u. runs.rounds_end (a.depth - 1) a.text.now o.result y q n (n - l.i) a.array.now a.residue.now a.out.now l.array l.out k.new.array k.new.out (v.6 lt) (omega arith) k.ensures.reads,
-      wide ∙ v.8,
-      len ∙ v9,
+      λ u. runs.rounds_one (a.depth - 1) a.text.now o.result y q b.result n (n - l.counter) (n - (l.counter + 1)) a.array.now a.residue.now a.out.now l.array l.out k.new.array k.new.out (v.6 lt) k.ensures.reads e (omega arith) (omega arith) len,
+      λ u. runs.rounds_end (a.depth - 1) a.text.now o.result y q n (n - l.counter) a.array.now a.residue.now a.out.now l.array l.out k.new.array k.new.out (v.6 lt) (omega arith) k.ensures.reads,
     )
 
 pub item-returns-in-Opens-clause-reads : goal.item-returns-in-Opens-clause-reads
 item-returns-in-Opens-clause-reads t c =
     let a = c.args in let w = sym c.word_at-w.ensures ∙ c.in-Opens.is in let n = c.in-Opens.n in
     let o = c.past_open-y in let o1 = ap (λ (r : Run). r.at) o.ensures in
-    let l = c.loop-i in let v = l.invariant in let v3 = v.3 in let v4 = v.4 in let ge = c.loop-i-test.false in
+    let l = c.loop in let v = l.invariant in let v3 = v.3 in let v4 = v.4 in let ge = c.loop-test.false in
     let ez = c.past_close.ensures in let h = runs.close_ahead a.text.now l.z v3 in let h1 = h.1 in
     let e1 = ap (λ (r : Run). r.at) ez in
     let j = subst (λ (u : Run). AgainRead a.text.now u (a.depth - 1) n l.z a.array.now a.residue.now a.out.now l.array l.out) o.ensures (v.7 (omega arith)) in
-    runs.item_group a.depth a.text.now a.x l.z c.past_close.result n a.array.now a.residue.now a.out.now l.array l.out w j ez (omega arith) v.9
+    runs.item_group a.depth a.text.now a.x l.z c.past_close.result n a.array.now a.residue.now a.out.now l.array l.out w j ez (omega arith) l.auto.out
 
 pub item-returns-in-Opens-clause-ahead : goal.item-returns-in-Opens-clause-ahead
 item-returns-in-Opens-clause-ahead t c =
     let a = c.args in
     let o = c.past_open-y in let o1 = ap (λ (r : Run). r.at) o.ensures in
-    let l = c.loop-i in let v = l.invariant in let v3 = v.3 in let v4 = v.4 in let v5 = v.5 in let v9 = v.9 in
+    let l = c.loop in let v = l.invariant in let v3 = v.3 in let v4 = v.4 in let v5 = v.5 in let v9 = l.auto.out in
     let ez = c.past_close.ensures in let h = runs.close_ahead a.text.now l.z v3 in let h0 = h.0 in let h1 = h.1 in let h2 = h.2 in
     let e1 = ap (λ (r : Run). r.at) ez in let e3 = ap (λ (r : Run). r.used) ez in
     (omega arith, omega arith, omega arith)

@@ -10,16 +10,12 @@ decreases-item l = 2 * (l.depth + (length l.text.now - l.x.at))
 abbrev pub decreases-list : goal.decreases-list
 decreases-list l = 2 * (l.depth + (length l.text.now - l.x.at)) + 1
 
-abbrev pub invariant-item-loop-i : goal.invariant-item-loop-i
-invariant-item-loop-i l =
+abbrev pub invariant-item-loop : goal.invariant-item-loop
+invariant-item-loop l =
     (l.y.at ≡ l.initial.y.at) × (l.y.left ≡ l.initial.y.left) × (l.y.used ≤ length l.out)
     × (l.z.at ≤ length l.text) × (l.initial.y.at ≤ l.z.at) × (l.z.used ≤ length l.out)
-    × (l.i < l.n → Rounds l.text l.initial.y (l.depth - 1) l.n l.y (l.n - l.i) l.initial.array l.residue l.initial.out l.array l.out)
-    × (l.n ≤ l.i → AgainRead l.text l.initial.y (l.depth - 1) l.n l.z l.initial.array l.residue l.initial.out l.array l.out)
-    × (length l.array ≡ length l.initial.array) × (length l.out ≡ length l.initial.out)
-
-abbrev pub decreases-item-loop-i : goal.decreases-item-loop-i
-decreases-item-loop-i l = l.n + 1 - l.i
+    × (l.counter < l.n → Rounds l.text l.initial.y (l.depth - 1) l.n l.y (l.n - l.counter) l.initial.array l.residue l.initial.out l.array l.out)
+    × (l.n ≤ l.counter → AgainRead l.text l.initial.y (l.depth - 1) l.n l.z l.initial.array l.residue l.initial.out l.array l.out)
 
 abbrev pub invariant-list-loop-y : goal.invariant-list-loop-y
 invariant-list-loop-y l =

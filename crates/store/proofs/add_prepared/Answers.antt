@@ -1,4 +1,3 @@
-use borrow.Author.Rules.{rules}
 use mathlib.Core.Path.{sym, ◌∙◌}
 use mathlib.Core.List.{List}
 use Prim.Native.Nat.{ℕ}
@@ -8,23 +7,19 @@ use Rattle.store_places.specs.Store.{add_of}
 use Rattle.store_survey.specs.Survey.{reader_number}
 use Rattle.store_contents.specs.Contents.{add_in_number}
 use Rattle.store.specs.Stores.{main_of}
-use Rattle.store.proofs.Blocks.{handed}
-use Rattle.store.proofs.Judging.{add_refused, add_is, change_ends, prepared_on}
+use Rattle.store.proofs.Judging.{add_refused, add_is, ready, prepared_on}
 use Rattle.store.proofs.add_prepared.Goals as goal
 
 pub returns-then-n-ne0 : goal.returns-then-n-ne0
 returns-then-n-ne0 c = let a = c.args in let k = c.change_number-n in let both = add_refused a.d a.s a.p a.array.now a.memory.now a.scratch k.result k.ensures c.if-n-ne0.true a.file.now a.letter (add_of (reader_number limit) a.letter a.file.now (main_of a.d.part a.array.now)) in record { result = both.0; memory_left = both.1 }
 
-pub overflow_add-to : goal.overflow_add-to
-overflow_add-to c = let h = (let a = c.args in let k = c.change_number-n in change_ends a.d a.s a.p a.array.now (length a.memory.now) a.scratch (sym k.ensures ∙ c.if-n-ne0.false) c.start-from.result c.length.result c.start-from.ensures c.length.ensures) in search rules
-
-pub slice_bounds-add_into-end : goal.slice_bounds-add_into-end
-slice_bounds-add_into-end c = let a = c.args in let k = c.change_number-n in change_ends a.d a.s a.p a.array.now (length a.memory.now) a.scratch (sym k.ensures ∙ c.if-n-ne0.false) c.start-from.result c.length.result c.start-from.ensures c.length.ensures
+pub main_block-requires : goal.main_block-requires
+main_block-requires c = let a = c.args in let k = c.change_number-n in (ready a.d a.s a.p (length a.array.now) (length a.memory.now) a.scratch (sym k.ensures ∙ c.if-n-ne0.false)).sized
 
 pub returns : goal.returns
 returns c = let a = c.args in
     let k = c.change_number-n in
     let e = c.add_into.ensures in
     let both = prepared_on (λ (x : List ℕ). add_in_number x a.file.now a.letter (length a.memory.now)) (λ (x : List ℕ). add_of (reader_number limit) a.letter a.file.now x) _ (main_of a.d.part a.array.now) a.memory.now _ _ _
-    (handed a.d.part a.array.now c.start-from.result c.length.result c.start-from.ensures c.length.ensures)
+    c.main_block.ensures
     (add_is a.d a.s a.p a.array.now (length a.memory.now) a.scratch (sym k.ensures ∙ c.if-n-ne0.false) a.file.now a.letter) e.result e.memory_left in record { result = both.0; memory_left = both.1 }

@@ -27,7 +27,7 @@ returns c =
     let f1 = laid_more out (decimal_of (length P / 6)) (bytes " knots, ") p0.new.out p1.new.out a.at p0.result p1.result f0 p1.ensures.result p1.ensures.out_left in
     let f2 = laid_more out ((decimal_of (length P / 6)) ++ (bytes " knots, ")) (temperature_text (of_int binary64 (tenths_of P (0)))) p1.new.out p2.new.out a.at p1.result p2.result f1 p2.ensures.result p2.ensures.out_left in
     let f3 = laid_more out (((decimal_of (length P / 6)) ++ (bytes " knots, ")) ++ (temperature_text (of_int binary64 (tenths_of P (0))))) (bytes " to ") p2.new.out p3.new.out a.at p2.result p3.result f2 p3.ensures.result p3.ensures.out_left in
-    let f4 = laid_more out ((((decimal_of (length P / 6)) ++ (bytes " knots, ")) ++ (temperature_text (of_int binary64 (tenths_of P (0))))) ++ (bytes " to ")) (temperature_text (of_int binary64 (tenths_of P c.less_one.result))) p3.new.out p4.new.out a.at p3.result p4.result f3 p4.ensures.result p4.ensures.out_left in
-    let f5 = laid_more out (((((decimal_of (length P / 6)) ++ (bytes " knots, ")) ++ (temperature_text (of_int binary64 (tenths_of P (0))))) ++ (bytes " to ")) ++ (temperature_text (of_int binary64 (tenths_of P c.less_one.result)))) (bytes "\n") p4.new.out p5.new.out a.at p4.result p5.result f4 p5.ensures.result p5.ensures.out_left in
-    let g : Laid out a.at (knots_text P) p5.new.out p5.result = subst (λ (z : ℕ). Laid out a.at ((((((decimal_of (length P / 6)) ++ (bytes " knots, ")) ++ (temperature_text (of_int binary64 (tenths_of P (0))))) ++ (bytes " to ")) ++ (temperature_text (of_int binary64 (tenths_of P z)))) ++ (bytes "\n")) p5.new.out p5.result) c.less_one.ensures f5 in
+    let f4 = laid_more out ((((decimal_of (length P / 6)) ++ (bytes " knots, ")) ++ (temperature_text (of_int binary64 (tenths_of P (0))))) ++ (bytes " to ")) (temperature_text (of_int binary64 (tenths_of P c.saturating_sub.result))) p3.new.out p4.new.out a.at p3.result p4.result f3 p4.ensures.result p4.ensures.out_left in
+    let f5 = laid_more out (((((decimal_of (length P / 6)) ++ (bytes " knots, ")) ++ (temperature_text (of_int binary64 (tenths_of P (0))))) ++ (bytes " to ")) ++ (temperature_text (of_int binary64 (tenths_of P c.saturating_sub.result)))) (bytes "\n") p4.new.out p5.new.out a.at p4.result p5.result f4 p5.ensures.result p5.ensures.out_left in
+    let g : Laid out a.at (knots_text P) p5.new.out p5.result = subst (λ (z : ℕ). Laid out a.at ((((((decimal_of (length P / 6)) ++ (bytes " knots, ")) ++ (temperature_text (of_int binary64 (tenths_of P (0))))) ++ (bytes " to ")) ++ (temperature_text (of_int binary64 (tenths_of P z)))) ++ (bytes "\n")) p5.new.out p5.result) c.saturating_sub.ensures f5 in
     record { result = g.place; out_left = g.bytes }

@@ -1,5 +1,5 @@
 use mathlib.Core.Path.{refl, sym, ◌∙◌}
-use Prim.Native.Nat.{◌-◌, ◌<◌}
+use Prim.Native.Nat.{◌<◌}
 use native.Mathlib.Omega.{arith}
 use lib.ListN.{length}
 use borrow.Author.Rules.{rules}
@@ -8,9 +8,6 @@ use Rattle.store_contents.proofs.slide.Goals as goal
 
 pub loop-from-init : goal.loop-from-init
 loop-from-init c = let a = c.args in let q = c.requires in (refl, refl, q.1, begins a.letter a.main.now a.memory.now q.0)
-
-pub overflow_add-from : goal.overflow_add-from
-overflow_add-from c = let t = c.loop-from-test.true in search rules
 
 pub overflow_add-end : goal.overflow_add-end
 overflow_add-end c =

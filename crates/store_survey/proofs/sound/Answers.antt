@@ -1,13 +1,10 @@
-use mathlib.Core.Path.{sym, ◌∙◌}
+use mathlib.Core.Path.{ap, ◌∙◌}
+use Rattle.std.specs.Result.{is_ok}
 use Rattle.file_codec.specs.File.{limit}
-use Rattle.store_survey.proofs.Reader.{sound_yes, sound_not}
+use Rattle.store_survey.proofs.Reader.{sound_same}
 use Rattle.store_survey.specs.Inner.{sound_of}
 use Rattle.store_survey.proofs.sound.Goals as goal
 
-pub returns-in-Sound : goal.returns-in-Sound
+pub returns : goal.returns
 unfolding sound_of
-returns-in-Sound c = sym (sound_yes limit _ _ _ (sym c.judge-verdict.ensures.result ∙ c.in-Sound.is))
-
-pub returns-in-Refused : goal.returns-in-Refused
-unfolding sound_of
-returns-in-Refused c = sym (sound_not limit _ _ _ (sym c.judge-verdict.ensures.result ∙ c.in-Refused.is))
+returns c = c.is_ok.ensures.value ∙ ap is_ok c.judge.ensures.result ∙ sound_same limit c.args.letter c.args.file.now

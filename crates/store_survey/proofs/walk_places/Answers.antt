@@ -1,7 +1,5 @@
 -- `store_survey::walk_places` meets its contract: what is left to tell agrees with what was to tell, place by place.
-use borrow.Author.Rules.{rules}
 use mathlib.Core.Path.{refl, ◌∙◌, ap}
-use Prim.Native.Nat.{◌-◌}
 use native.Mathlib.Omega.{arith}
 use lib.ListN.{length}
 use Rattle.store_survey.proofs.Spots.{left_at, ended}
@@ -10,21 +8,6 @@ use Rattle.store_survey.proofs.walk_places.Goals as goal
 
 pub loop-p-init : goal.loop-p-init
 loop-p-init c = let a = c.args in (refl, refl, begun a.letter a.n a.main.now a.seen.now c.requires)
-
-pub twice-again-requires : goal.twice-again-requires
-twice-again-requires c = tt
-
-pub note-s-requires : goal.note-s-requires
-note-s-requires c = let L = c.loop-p in (L.invariant.2.low_live, L.invariant.2.low_run, search rules)
-
-pub mark-requires : goal.mark-requires
-mark-requires c = tt
-
-pub more-requires : goal.more-requires
-more-requires c = tt
-
-pub loop-p-smaller : goal.loop-p-smaller
-loop-p-smaller c = omega arith
 
 pub loop-p-preserved : goal.loop-p-preserved
 loop-p-preserved c =

@@ -1,14 +1,12 @@
 -- `table_text::put_knots` meets its contract: the lines that are left, laid behind those that stand, are the table's.
-use mathlib.Core.Path.{refl, ◌∙◌}
-use Prim.Native.Nat.{◌-◌, zero-le}
-use native.Mathlib.Omega.{arith}
+use mathlib.Core.Path.{◌∙◌}
 use mir.Syntax.{w16, w32}
 use mir.ValLaws.{to_z-of_z}
 use Rattle.table_text.proofs.Rounds.{goes_start, goes_on, goes_end}
 use Rattle.table_text.proofs.put_knots.Goals as goal
 
 pub loop-i-init : goal.loop-i-init
-loop-i-init c = let a = c.args in (zero-le, refl, goes_start a.out.now a.payload.now)
+loop-i-init c = goes_start c.args.out.now c.args.payload.now
 
 pub loop-i-preserved : goal.loop-i-preserved
 loop-i-preserved c =
@@ -16,14 +14,8 @@ loop-i-preserved c =
     let l = c.loop-i in
     let k = c.put_knot-at in
     let v = c.volts-volts in
-    let t = c.tenths-tenths in (
-      omega (arith, c.loop-i-test.true),
-      k.auto.out ∙ l.invariant.1,
-      goes_on a.out.now a.payload.now l.out k.new.out _ l.i l.at k.result _ _ l.invariant.2 c.loop-i-test.true (to_z-of_z w32 v.result (record { sfits = v.type_inv }) ∙ v.ensures) (to_z-of_z w16 t.result (record { sfits = t.type_inv }) ∙ t.ensures) k.ensures.result k.ensures.out_left,
-    )
-
-pub shape_of-out : goal.shape_of-out
-shape_of-out c = c.loop-i.invariant.1
+    let t = c.tenths-tenths in
+    goes_on a.out.now a.payload.now l.out k.new.out _ l.i l.at k.result _ _ l.invariant c.loop-i-test.true (to_z-of_z w32 v.result (record { sfits = v.type_inv }) ∙ v.ensures) (to_z-of_z w16 t.result (record { sfits = t.type_inv }) ∙ t.ensures) k.ensures.result k.ensures.out_left
 
 pub returns : goal.returns
-returns c = let a = c.args in let l = c.loop-i in let both = goes_end a.out.now a.payload.now l.out _ l.i l.at l.invariant.2 c.loop-i-test.false in record { result = both.0; out_left = both.1 }
+returns c = let a = c.args in let l = c.loop-i in let both = goes_end a.out.now a.payload.now l.out _ l.i l.at l.invariant c.loop-i-test.false in record { result = both.0; out_left = both.1 }

@@ -9,7 +9,7 @@ use Rattle.trace_replay.specs.Replays.{array_by, line_step}
 use Rattle.trace_replay.proofs.answer_line.Goals as goal
 
 pub returns : goal.returns
-returns c =
+returns g c =
     let a = c.args in
     let e = c.cycle_in-c.ensures in
     let k = c.step-a.ensures in

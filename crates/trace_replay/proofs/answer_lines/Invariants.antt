@@ -2,19 +2,13 @@
 -- the answers and of the array.
 use mathlib.Core.Path.{◌≡◌}
 use mathlib.Core.List.{◌++◌}
-use Prim.Native.Nat.{◌-◌, ◌*◌, ◌≤◌}
-use lib.ListN.{length, take, drop}
+use Prim.Native.Nat.{◌-◌, ◌*◌}
+use lib.ListN.{take, drop}
 use Rattle.trace_replay.specs.Replays.{answers_of, arrays_of}
 use Rattle.trace_replay.proofs.answer_lines.Given as goal
 
 abbrev pub invariant-loop-i : goal.invariant-loop-i
-invariant-loop-i l =
-    (l.i ≤ l.g)
-    × (arrays_of (l.g - l.i) l.s l.array l.residue (drop (20 * l.i) l.text) ≡ arrays_of l.g l.initial.s l.initial.array l.residue l.text)
+invariant-loop-i t l =
+    (arrays_of (l.g - l.i) l.s l.array l.residue (drop (20 * l.i) l.text) ≡ arrays_of l.g l.initial.s l.initial.array l.residue l.text)
     × (take (8 * l.i) l.out ++ answers_of (l.g - l.i) l.s l.array l.residue (drop (20 * l.i) l.text) ≡ answers_of l.g l.initial.s l.initial.array l.residue l.text)
     × (drop (8 * l.i) l.out ≡ drop (8 * l.i) l.initial.out)
-    × (length l.array ≡ length l.initial.array)
-    × (length l.out ≡ length l.initial.out)
-
-abbrev pub decreases-loop-i : goal.decreases-loop-i
-decreases-loop-i l = l.g - l.i

@@ -1,39 +1,16 @@
--- `trace_replay::good_lines` meets its contract: after i rounds the first i lines are good, and what is counted from there makes up the
--- count.
-use mathlib.Core.Path.{sym, ◌∙◌}
-use Prim.Native.Nat.{◌-◌}
-use native.Mathlib.Omega.{arith}
-use native.Mathlib.Nat.{zero-add}
-use Rattle.trace_replay.specs.Replays.{good_lines}
-use Rattle.trace_replay.proofs.Scans.{scan_good, scan_bad, scan_over}
+-- `trace_replay::good_lines` meets its contract: the first number whose line is not good is the count of those before it.
+use Rattle.std.proofs.Common.{rules, ◌*◌}
+use Rattle.std.proofs.lemmas.Iterator.{YieldsList-from_range}
+use Rattle.std.proofs.lemmas.Iterator.Search.{position_from_yields_List}
+use borrow.Author.Tests.{tests}
+use mathlib.Core.Path.{refl, ◌∙◌}
+use mathlib.Core.Bool.{not}
+use lib.ListN.{take, drop}
+use Rattle.trace_lines.specs.Lines.{is_line}
+use Rattle.trace_replay.proofs.Scans.{scan_is}
 use Rattle.trace_replay.proofs.good_lines.Goals as goal
-
-pub loop-i-init : goal.loop-i-init
-loop-i-init c = (omega arith, zero-add (good_lines 9998 c.args.text.now))
-
-pub good_at-requires : goal.good_at-requires
-good_at-requires c = omega arith
-
-pub overflow_add-i : goal.overflow_add-i
-overflow_add-i c = omega arith
-
-pub loop-i-smaller : goal.loop-i-smaller
-loop-i-smaller c = omega arith
-
-pub loop-i-preserved : goal.loop-i-preserved
-loop-i-preserved c =
-    let l = c.loop-i in
-    let a = c.args in
-    (omega arith, scan_good 9998 l.i a.text.now c.loop-i-test.true (sym c.good_at.ensures ∙ c.if-good_at.true) ∙ l.invariant.1)
-
-pub returns-else-good_at : goal.returns-else-good_at
-returns-else-good_at c =
-    let l = c.loop-i in
-    let a = c.args in
-    sym (scan_bad 9998 l.i a.text.now c.loop-i-test.true (sym c.good_at.ensures ∙ c.if-good_at.false)) ∙ l.invariant.1
 
 pub returns : goal.returns
 returns c =
-    let l = c.loop-i in
-    let a = c.args in
-    sym (scan_over 9998 l.i a.text.now c.loop-i-test.false) ∙ l.invariant.1
+    c.unwrap_or.ensures ∙ scan_is 9998 c.args.text.now c.position.result
+    (position_from_yields_List (λ i. not (is_line (take 20 (drop (20 * i) c.args.text.now)))) _ _ _ c.position.ensures.ran (YieldsList-from_range 0 9998 9998 refl refl) (λ x b q k. search (rules, tests)))

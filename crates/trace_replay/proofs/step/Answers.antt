@@ -10,9 +10,9 @@ use Rattle.trace_replay.proofs.step.Goals as goal
 
 pub returns : goal.returns
 unfolding line_step step_told array_by lent
-returns c =
+returns g c =
     let a = c.args in
-    let e = c.bench-d.ensures in
+    let e = c.bench.ensures in
     let both = answer_too bench_t a.s a.c a.array.now a.residue.now
     (c.cycle.ensures.result ∙ ap (λ (d : Device). answer_of d a.s a.c (lent d.part.word a.array.now) (units d.part.word a.residue.now)) e)
     (c.cycle.ensures.array_left ∙ ap (λ (d : Device). bytes_after d a.s a.c a.array.now a.residue.now) e

@@ -27,8 +27,8 @@ returns-then-g-text c =
     (bad_worn g.result a.array.now a.residue.now a.text.now g.ensures c.if-g-text.true)
     (bad_array g.result a.array.now a.residue.now a.text.now g.ensures c.if-g-text.true) in record { result = both.0; told = both.1.0; array_left = both.1.1 }
 
-pub last_state-s-requires : goal.last_state-s-requires
-last_state-s-requires c =
+pub last_state-requires : goal.last_state-requires
+last_state-requires c =
     let a = c.args in
     let g = c.good_lines-g in
     inside g.result a.array.now a.residue.now a.text.now g.ensures
@@ -37,7 +37,7 @@ pub returns : goal.returns
 returns c =
     let a = c.args in
     let g = c.good_lines-g in
-    let k = c.last_state-s in
+    let k = c.last_state in
     let h = c.if-g-text.false in
     let both = worn_too a.array.now a.residue.now a.text.now
     (good_worn g.result a.array.now a.residue.now a.text.now g.ensures h k.result k.ensures.result)

@@ -1,50 +1,48 @@
--- `vectors_text::next_row` meets its contract: the bytes gone through and the row that is left make the row.
-use mathlib.Core.Path.{refl, ap}
-use Prim.Native.Nat.{◌-◌, ◌≤◌, ◌<◌}
-use native.Mathlib.Omega.{arith}
-use borrow.Author.Tests.{eq-eqb, ne_eqb}
-use lib.ListN.{length, drop_of_length-le}
+-- `vectors_text::next_row` meets its contract: the row that is left ends behind its newline, or with the text.
+use Rattle.std.proofs.Common.{◌≡◌, ◌+◌, ◌-◌, ◌≤◌, ◌<◌, ◌∙◌, ap, sym, refl, List, ℕ, arith, length, take, drop, length-drop, min, max, Bool, true, false, leb, Some, None, position, eqb}
+use borrow.Author.Tests.{leb-true, leb-false}
+use lib.ListN.{drop_of_length-le}
+use lib.Seq.{take_all}
 use Rattle.vectors_text.specs.Text.{row_of, next_row}
-use Rattle.vectors_text.proofs.Text.{row_on, row_end}
+use Rattle.vectors_text.proofs.Text.{row_found, row_missing}
 use Rattle.vectors_text.proofs.next_row.Goals as goal
 
-pub loop-i-init : goal.loop-i-init
-loop-i-init c = (omega arith, omega arith, refl)
+-- what is left of a text, cut off where it ends
+left : (xs : List ℕ) (at from : ℕ) → from ≡ min at (length xs) → take (length xs - from) (drop from xs) ≡ drop from xs
+left xs at from e = take_all (length xs - from) (drop from xs) (omega (arith, length-drop {A = ℕ}))
 
-pub bounds-text-i : goal.bounds-text-i
-bounds-text-i c = omega arith
+-- behind the end nothing is left, and no row
+past : (xs : List ℕ) (at : ℕ) → length xs ≤ at → row_of (drop at xs) ≡ 0
+past xs at h = ap row_of (drop_of_length-le xs {i = at} h)
 
-pub overflow_add-result : goal.overflow_add-result
-overflow_add-result c = omega arith
+found : (xs : List ℕ) (at from k : ℕ) → from ≡ min at (length xs) → Some k ≡ position (λ b. eqb b 10) (take (length xs - from) (drop from xs)) → (k + from < length xs) × (from ≡ at) × (row_of (drop at xs) ≡ k + 1)
+found xs at from k e p =
+    let f = row_found (drop from xs) k (p ∙ ap (position (λ b. eqb b 10)) (left xs at from e)) in
+    let l : k + from < length xs = omega (arith, f.0, length-drop {A = ℕ}) in
+    let s : from ≡ at = omega arith in
+    (l, s, ap (λ (i : ℕ). row_of (drop i xs)) (sym s) ∙ f.1)
 
-pub returns-then-text-i-eq10 : goal.returns-then-text-i-eq10
+missing : (xs : List ℕ) (at from : ℕ) → from ≡ min at (length xs) → None ≡ position (λ b. eqb b 10) (take (length xs - from) (drop from xs)) → max at (length xs) ≡ at + row_of (drop at xs)
+missing xs at from e p = go (leb at (length xs)) refl
+  where
+    m : row_of (drop from xs) ≡ length xs - from
+    m = row_missing (drop from xs) (p ∙ ap (position (λ b. eqb b 10)) (left xs at from e)) ∙ length-drop from xs
+
+    go : (b : Bool) → leb at (length xs) ≡ b → max at (length xs) ≡ at + row_of (drop at xs)
+    go true t =
+        let h : at ≤ length xs = leb-true _ _ t in
+        let s : from ≡ at = omega arith in
+        omega (arith, ap (λ (i : ℕ). row_of (drop i xs)) s, m)
+    go false t =
+        let h : length xs < at = leb-false _ _ t in
+        omega (arith, past xs at (omega arith))
+
+pub returns-in-Some : goal.returns-in-Some
 unfolding next_row
-returns-then-text-i-eq10 c =
-    let l = c.loop-i in
-    let s = c.args.text.now in
-    let h : l.i < length s = omega arith in
-    let e = row_end s l.i h (eq-eqb _ _ c.if-text-i-eq10.true) in
-    (omega (arith, e, l.invariant.2), omega arith, omega arith)
+returns-in-Some c =
+    let f = found c.args.text.now c.args.at c.min-from.result c.in-Some.k c.min-from.ensures c.in-Some.ensures in
+    (omega (arith, f.2), omega (arith, f.0, f.1), omega (arith, f.0, f.1))
 
-pub overflow_add-i : goal.overflow_add-i
-overflow_add-i c = omega arith
-
-pub loop-i-smaller : goal.loop-i-smaller
-loop-i-smaller c = omega arith
-
-pub loop-i-preserved : goal.loop-i-preserved
-loop-i-preserved c =
-    let l = c.loop-i in
-    let s = c.args.text.now in
-    let h : l.i < length s = omega arith in
-    let e = row_on s l.i h (ne_eqb _ _ c.if-text-i-eq10.false) in
-    (omega arith, omega arith, omega (arith, e, l.invariant.2))
-
-pub returns : goal.returns
+pub returns-in-None : goal.returns-in-None
 unfolding next_row
-returns c =
-    let l = c.loop-i in
-    let s = c.args.text.now in
-    let h : length s ≤ l.i = omega arith in
-    let e = ap row_of (drop_of_length-le s {i = l.i} h) in
-    (omega (arith, e, l.invariant.2), omega arith, omega arith)
+returns-in-None c = (c.max.ensures ∙ missing c.args.text.now c.args.at c.min-from.result c.min-from.ensures c.in-None.ensures, omega arith, omega arith)

@@ -6,9 +6,6 @@ use Rattle.common.specs.Lists.{overwritten}
 use Rattle.vectors_text.specs.Patterns.{pattern_from}
 use Rattle.vectors_text.proofs.pattern.Given as goal
 
-abbrev pub invariant-loop-i : goal.invariant-loop-i
-invariant-loop-i l =
-    (l.v < l.m) × (l.i ≤ length l.initial.s) × (length l.s ≡ length l.initial.s) × (l.s ≡ overwritten l.i (pattern_from l.m l.d (length l.initial.s) l.initial.v) l.initial.s) × (drop l.i (pattern_from l.m l.d (length l.initial.s) l.initial.v) ≡ pattern_from l.m l.d (length l.initial.s - l.i) l.v)
-
-abbrev pub decreases-loop-i : goal.decreases-loop-i
-decreases-loop-i l = length l.initial.s - l.i
+abbrev pub invariant-loop-b : goal.invariant-loop-b
+invariant-loop-b l =
+    (l.v < l.m) × (l.b-index ≤ length l.initial.s) × (length l.s ≡ length l.initial.s) × (l.s ≡ overwritten l.b-index (pattern_from l.m l.d (length l.initial.s) l.initial.v) l.initial.s) × (drop l.b-index (pattern_from l.m l.d (length l.initial.s) l.initial.v) ≡ pattern_from l.m l.d (length l.initial.s - l.b-index) l.v)

@@ -1,36 +1,17 @@
--- `wear::differ` meets its contract: what was found or is found further on is what was to be found.
-use mathlib.Core.Path.{refl, sym, ap, ◌∙◌}
-use mathlib.Core.Bool.{Bool, ◌||◌}
-use Prim.Native.Nat.{◌+◌, ◌-◌}
-use native.Mathlib.Omega.{arith}
-use lib.ListN.{drop}
-use Rattle.wear.specs.Refusals.{differ}
-use Rattle.wear.proofs.Walks.{further, over}
+-- `wear::differ` meets its contract.
+use mathlib.Core.Path.{◌∙◌}
+use mathlib.Core.Bool.{Bool, false, not, ◌||◌}
+use Prim.Native.Nat.{ℕ}
+use lib.Dec.{eqb}
+use Rattle.std.proofs.Common.{rules, tests}
+use Rattle.std.proofs.lemmas.Iterator.{YieldsList-from_slice}
+use Rattle.std.proofs.lemmas.Iterator.Consumers.{fold_from_yields_List}
+use Rattle.wear.proofs.Walks.{differ_fold}
 use Rattle.wear.proofs.differ.Goals as goal
-
-pub loop-i-init : goal.loop-i-init
-loop-i-init c = (omega arith, refl)
-
-pub bounds-s-i : goal.bounds-s-i
-bounds-s-i c = omega arith
-
-pub overflow_add-i : goal.overflow_add-i
-overflow_add-i c = omega arith
-
-pub loop-i-smaller : goal.loop-i-smaller
-loop-i-smaller c = omega arith
-
-pub loop-i-preserved : goal.loop-i-preserved
-loop-i-preserved c =
-    let a = c.args in
-    let l = c.loop-i in (
-      omega arith,
-      ap (λ (b : Bool). (l.found || b) || differ a.number (drop (l.i + 1) a.s.now)) c.is_other-found.ensures
-          ∙ further a.number a.s.now l.i (omega arith) l.found ∙ l.invariant.1,
-    )
 
 pub returns : goal.returns
 returns c =
-    let a = c.args in
-    let l = c.loop-i in
-    sym (over a.number a.s.now l.i (omega arith) l.found) ∙ l.invariant.1
+    let n = c.args.number in
+    let s = c.args.s.now in
+    fold_from_yields_List _ (λ (b : Bool) (x : ℕ). b || not (eqb x n)) _ _ c.fold.ensures.ran (YieldsList-from_slice s (cc)) (λ a x b q k. search (rules, tests))
+    ∙ differ_fold n s false

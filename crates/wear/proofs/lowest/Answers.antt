@@ -1,15 +1,13 @@
-use borrow.Author.Tests.{lt-ltb, le-ltb}
+-- `wear::lowest` meets its contract.
+use Rattle.std.proofs.Common.{arith}
+use Rattle.std.proofs.lemmas.Bool.Decides.{nat_tests}
 use Rattle.wear.specs.Reports.{lowest}
 use Rattle.wear.proofs.lowest.Goals as goal
 
 pub returns-then-first : goal.returns-then-first
 unfolding lowest
-returns-then-first c = simp c.if-first.true
+returns-then-first c = grind (arith, nat_tests)
 
-pub returns-then-n-a : goal.returns-then-n-a
+pub returns-else-first : goal.returns-else-first
 unfolding lowest
-returns-then-n-a c = simp (lt-ltb _ _ c.if-n-a.true, c.if-first.false)
-
-pub returns : goal.returns
-unfolding lowest
-returns c = simp (le-ltb _ _ c.if-n-a.false, c.if-first.false)
+returns-else-first c = grind (arith, nat_tests)

@@ -1,11 +1,13 @@
-use borrow.Author.Tests.{lt-ltb, le-ltb}
+-- `wear::pass` meets its contract.
+use Rattle.std.proofs.Common.{arith}
+use Rattle.std.proofs.lemmas.Bool.Decides.{nat_tests}
 use Rattle.wear.specs.Reports.{passing}
 use Rattle.wear.proofs.pass.Goals as goal
 
 pub returns-then-n-gt-SHEET : goal.returns-then-n-gt-SHEET
 unfolding passing
-returns-then-n-gt-SHEET c = simp (c.raise.ensures, lt-ltb _ _ c.if-n-gt-SHEET.true)
+returns-then-n-gt-SHEET c = grind (arith, nat_tests)
 
 pub returns : goal.returns
 unfolding passing
-returns c = simp (le-ltb _ _ c.if-n-gt-SHEET.false)
+returns c = grind (arith, nat_tests)

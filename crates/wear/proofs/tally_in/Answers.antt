@@ -1,9 +1,9 @@
+-- `wear::tally_in` meets its contract.
+use Rattle.std.proofs.Common.{arith}
+use Rattle.std.proofs.lemmas.Bool.Decides.{nat_tests}
+use Rattle.wear.specs.Reports.{added_up, larger}
 use Rattle.wear.proofs.tally_in.Goals as goal
 
 pub returns : goal.returns
-returns c =
-    let pass = c.pass_in.ensures in
-    let low = c.lowest.ensures in
-    let large = c.larger.ensures in
-    let sum = c.add_in.ensures in
-    (λ i. record { total = sum.0 i; largest = large i; smallest = low i; passed = pass.0 i }, (sum.1, pass.1))
+unfolding added_up larger
+returns c = grind (arith, nat_tests)

@@ -11,16 +11,16 @@ returns-then-unread c =
     let e = cut a.counting a.k a.text.now a.ended (sym c.unread.ensures ∙ c.if-unread.true) in
     let both = same a.out.now s.new.out s.result (uncounted a.counting 33 a.k 0) (more_said a.counting a.k a.text.now a.ended) e s.ensures.result s.ensures.out_left s.ensures.out_used in record { result = both.0; out_left = both.1.0; out_used = both.1.1 }
 
-pub returns-in-Counted : goal.returns-in-Counted
-returns-in-Counted c =
+pub returns-in-Ok : goal.returns-in-Ok
+returns-in-Ok c =
     let a = c.args in
     let s = c.add_wear in
-    let e = whole a.counting a.k a.text.now a.ended _ (sym c.unread.ensures ∙ c.if-unread.false) (sym c.judged.ensures ∙ c.in-Counted.is) in
+    let e = whole a.counting a.k a.text.now a.ended _ (sym c.unread.ensures ∙ c.if-unread.false) (sym c.judged.ensures ∙ c.in-Ok.is) in
     let both = same a.out.now s.new.out s.result (wear_said a.counting a.k _) (more_said a.counting a.k a.text.now a.ended) e s.ensures.result s.ensures.out_left s.ensures.out_used in record { result = both.0; out_left = both.1.0; out_used = both.1.1 }
 
-pub returns-in-BadLine : goal.returns-in-BadLine
-returns-in-BadLine c =
+pub returns-in-Err : goal.returns-in-Err
+returns-in-Err c =
     let a = c.args in
-    let s = c.say-in-BadLine in
-    let e = whole a.counting a.k a.text.now a.ended _ (sym c.unread.ensures ∙ c.if-unread.false) (sym c.judged.ensures ∙ c.in-BadLine.is) in
+    let s = c.say-in-Err in
+    let e = whole a.counting a.k a.text.now a.ended _ (sym c.unread.ensures ∙ c.if-unread.false) (sym c.judged.ensures ∙ c.in-Err.is) in
     let both = same a.out.now s.new.out s.result (uncounted a.counting 63 a.k _) (more_said a.counting a.k a.text.now a.ended) e s.ensures.result s.ensures.out_left s.ensures.out_used in record { result = both.0; out_left = both.1.0; out_used = both.1.1 }

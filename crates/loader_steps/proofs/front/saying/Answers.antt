@@ -27,12 +27,12 @@ module _ (stage : Stage) (l : Loader) (w : List ℕ) (e : StageIs) (p : e ≡ st
       ap (λ (x : Cycle). Out x) q
       ∙ sym (if_false (is_ended stage) (Over (end_by stage) (end_address l (end_by stage))) (Out (cycle_of l w)) (sym (ap (λ (x : StageIs). x.ended) p) ∙ t))
 
-pub returns-then-ended : goal.returns-then-ended
-returns-then-ended c =
+pub returns-then-e : goal.returns-then-e
+returns-then-e c =
     let a = c.args in
-    over a.stage a.l (units a.l.part.word a.wanted.now) c.stage_is-e.result c.stage_is-e.ensures _ c.if-ended.true c.end_address.ensures
+    over a.stage a.l (units a.l.part.word a.wanted.now) c.stage_is-e.result c.stage_is-e.ensures _ c.if-e.true c.end_address.ensures
 
 pub returns : goal.returns
 returns c =
     let a = c.args in
-    out a.stage a.l (units a.l.part.word a.wanted.now) c.stage_is-e.result c.stage_is-e.ensures _ c.if-ended.false c.out.ensures
+    out a.stage a.l (units a.l.part.word a.wanted.now) c.stage_is-e.result c.stage_is-e.ensures _ c.if-e.false c.out.ensures

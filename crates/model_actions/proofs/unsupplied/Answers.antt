@@ -1,6 +1,0 @@
-use Rattle.model_actions.specs.Performed.{unsupplied}
-use Rattle.model_actions.proofs.unsupplied.Goals as goal
-
-pub returns : goal.returns
-unfolding unsupplied
-returns c = simp c.vpp_low.ensures
