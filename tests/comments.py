@@ -15,7 +15,9 @@ ROOT = pathlib.Path(__file__).resolve().parent.parent
 MOST = 140
 ONCE = "Assumes" + " nothing."
 DEFINITION = re.compile(r" *(?:(?:unfoldable|abbrev) pub |pub (?:record |data )?(?!mod\b|use\b))([^\s:]+)")
-ITEM = re.compile(r'pub (?:extern "C" )?(?:fn|struct|enum|const|static|type) (\w+)')
+ITEM = re.compile(r'pub (?:extern "C" )?(?:fn|struct|enum|const|static|type|trait) (\w+)')
+METHOD = re.compile(r"    fn (\w+)")
+OWN = re.compile(r"    pub fn (\w+)")
 FIELDS = re.compile(r"( *)(?:pub )?(?:record|data) ")
 TEXTS = ["*.md", "docs/**/*.md", "include/*.h", "crates.txt", "tests/**/*", "commands/**/*", "example/*", "bench/*", ".ci/run", "torfbarke"]
 MARKS = {".py": "#", ".sh": "#", ".awk": "#", ".txt": "#", "": "#", ".c": ("/*", "* ", "//"), ".h": ("/*", "* ", "//"), ".md": ""}
@@ -48,9 +50,12 @@ def definitions(file):
 
 
 def items(file):
-    """Each public item of a file of src/: its line and its name."""
+    """Each public item of a file of src/, each method of a public trait and each public one of a type itself: its line and its name."""
+    block = ""
     for at, line in enumerate(lines(file)):
-        found = ITEM.match(line)
+        if line[:1].strip():
+            block = line
+        found = ITEM.match(line) or block.startswith("pub trait ") and METHOD.match(line) or block.startswith("impl") and OWN.match(line)
         if found:
             yield at, found.group(1)
 

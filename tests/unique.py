@@ -1,9 +1,9 @@
 #!/usr/bin/env python3
-"""Every public function has its uniqueness: for each equation of its contract a theorem NAME_unique or NAME_.._unique stands in
-proofs/Unique.antt of its crate, and says the contract's own right-hand side, its bound variables standing for the arguments. The C
-functions leave out `tb_`, and those of a static library NAME_c have the theorems of NAME. A slice that is told by its units and its spare
-byte, both of them in the contract, is covered by the one law `left_unique` of units: what has the same units and the same spare byte is
-the same. (R-promise-1)
+"""Every public function, a trait's methods among them, has its uniqueness: for each equation of its contract a theorem NAME_unique or
+NAME_.._unique stands in proofs/Unique.antt of its crate, and says the contract's own right-hand side, its bound variables standing for the
+arguments. The C functions leave out `tb_`, and those of a static library NAME_c have the theorems of NAME. A slice that is told by its
+units and its spare byte, both of them in the contract, is covered by the one law `left_unique` of units: what has the same units and the
+same spare byte is the same. (R-promise-1)
 
 `unique.py` compares and ends with 1 where one is missing or says something else; `unique.py list` prints the pairs too."""
 import pathlib
@@ -12,6 +12,44 @@ import sys
 
 ROOT = pathlib.Path(__file__).resolve().parent.parent / "crates"
 TOKEN = re.compile(r"[()\[\]{};,]|λ|[^\s()\[\]{};,]+")
+# what is looked at, by a source written by hand: a trait's method, a type's own public one, a public function, and no other
+SAMPLE = """\
+pub trait Engine {
+    fn cycle(d: Device) -> Answer
+        ensures { result ≡ answer_of d };
+}
+
+impl Engine for Rules {
+    fn cycle(d: Device) -> Answer {
+        model::cycle(d)
+    }
+}
+
+impl FileRefusal {
+    pub fn number(self) -> u8
+        ensures { result ≡ number_of self }
+    {
+        self.own()
+    }
+
+    fn own(self) -> u8
+        ensures { result ≡ number_of self }
+    {
+        30
+    }
+}
+
+pub fn fresh() -> State
+    ensures { result ≡ fresh_state }
+{
+    State { left: 0 }
+}
+
+fn inner() -> u8 {
+    0
+}
+"""
+SEEN = [("cycle", "result ≡ answer_of d"), ("number", "result ≡ number_of self"), ("fresh", "result ≡ fresh_state")]
 
 
 def tree(text):
@@ -87,16 +125,22 @@ def sides(words):
             yield from sides(word)
 
 
-def functions_in(path):
-    """Name and contract of each public function of a file: the lines from `pub fn` to the one that opens its body."""
-    name, lines = None, []
-    for line in path.read_text().split("\n"):
-        start = re.match(r'pub (?:extern "C" )?fn (\w+)', line)
+def functions_in(text):
+    """Name and contract of each public function of a source, of each method of a public trait and of each public one of a type itself: the
+    lines from its `fn` to the one that opens its body or, in a trait, ends the promise. What a type does for a trait has the promise there."""
+    name, lines, block = None, [], ""
+    for line in text.split("\n"):
+        if line[:1].strip():
+            block = line
+        trait = block.startswith("pub trait ")
+        own = block.startswith("impl") and " for " not in block
+        start = re.match(r'pub (?:extern "C" )?fn (\w+)', line) or trait and re.match(r"    fn (\w+)", line)
+        start = start or own and re.match(r"    pub fn (\w+)", line)
         if start:
             name, lines = start.group(1), []
         if name:
             lines.append(line)
-            if line.endswith("{") and not line.lstrip().startswith(("ensures", "requires")):
+            if line.endswith("{") and not line.lstrip().startswith(("ensures", "requires")) or trait and line.endswith(";"):
                 yield name, "\n".join(lines)
                 name = None
 
@@ -162,6 +206,9 @@ def as_list(term):
 
 def main():
     wrong = pairs = functions = 0
+    if [(name, fact.strip()) for name, contract in functions_in(SAMPLE) for fact in clauses(contract)] != SEEN:
+        wrong += 1
+        print("unique.py does not see each function of its own sample")
     for crate in sorted(ROOT.iterdir()):
         # streams reaches the system, and no contract can say what that gives or takes
         if not (crate / "src/lib.rt").exists() or crate.name == "streams":
@@ -172,7 +219,7 @@ def main():
         for source in sorted(crate.glob("src/*.rt")):
             if source.name != "lib.rt" and f"pub mod {source.stem};" not in root:
                 continue
-            for name, contract in functions_in(source):
+            for name, contract in functions_in(source.read_text()):
                 functions += 1
                 facts = clauses(contract)
                 short = re.sub(r"^tb_", "", name)

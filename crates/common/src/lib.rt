@@ -53,6 +53,8 @@ pub fn copy(dst: &mut [u8], src: &[u8])
         let at = 512 * k;
         piece(&mut dst[at..at + 512], &src[at..at + 512]);
     }
-    let done = n - n % 512;
-    dst[done..n].copy_from_slice(&src[done..n]);
+    // Kept: an index, since `copy_from_slice` calls `memmove`, a name more that C's host has to bring.
+    for i in n - n % 512..n {
+        dst[i] = src[i];
+    }
 }

@@ -1,5 +1,5 @@
 -- The table of parts: past its end, and the sizes of its rows.
-use mathlib.Core.Path.{◌≡◌, refl, sym, subst}
+use mathlib.Core.Path.{◌≡◌, refl, sym, ap, subst}
 use mathlib.Core.Bool.{false}
 use Prim.Native.Nat.{ℕ, zero, suc, ◌<◌, ◌/◌}
 use native.Mathlib.Omega.{arith}
@@ -34,3 +34,43 @@ by_rows P a b c d e f g h z (suc (suc (suc (suc (suc (suc (suc (suc n)))))))) = 
 pub halved : (n : ℕ) → size_in (in_words (row_of n)) ≡ size_in (row_of n) / 2
 unfolding row_of in_words size_in
 halved = by_rows (λ (s : Shape). size_in (in_words s) ≡ size_in s / 2) refl refl refl refl refl refl refl refl refl
+
+-- the sizes of the rows, two by two
+pub size_2 : (n : ℕ) → 0 < n → n < 3 → size_in (row_of n) ≡ 131072
+unfolding row_of size_in
+size_2 zero l h = absurd (omega arith)
+size_2 (suc zero) l h = refl
+size_2 (suc (suc zero)) l h = refl
+size_2 (suc (suc (suc n))) l h = absurd (omega arith)
+
+pub size_4 : (n : ℕ) → 2 < n → n < 5 → size_in (row_of n) ≡ 16384
+unfolding row_of size_in
+size_4 zero l h = absurd (omega arith)
+size_4 (suc zero) l h = absurd (omega arith)
+size_4 (suc (suc zero)) l h = absurd (omega arith)
+size_4 (suc (suc (suc zero))) l h = refl
+size_4 (suc (suc (suc (suc zero)))) l h = refl
+size_4 (suc (suc (suc (suc (suc n))))) l h = absurd (omega arith)
+
+pub size_6 : (n : ℕ) → 4 < n → n < 7 → size_in (row_of n) ≡ 262144
+unfolding row_of size_in
+size_6 zero l h = absurd (omega arith)
+size_6 (suc zero) l h = absurd (omega arith)
+size_6 (suc (suc zero)) l h = absurd (omega arith)
+size_6 (suc (suc (suc zero))) l h = absurd (omega arith)
+size_6 (suc (suc (suc (suc zero)))) l h = absurd (omega arith)
+size_6 (suc (suc (suc (suc (suc zero))))) l h = refl
+size_6 (suc (suc (suc (suc (suc (suc zero)))))) l h = refl
+size_6 (suc (suc (suc (suc (suc (suc (suc n))))))) l h = absurd (omega arith)
+
+pub size_8 : (n : ℕ) → 6 < n → size_in (row_of n) ≡ 524288
+unfolding row_of size_in
+size_8 zero l = absurd (omega arith)
+size_8 (suc zero) l = absurd (omega arith)
+size_8 (suc (suc zero)) l = absurd (omega arith)
+size_8 (suc (suc (suc zero))) l = absurd (omega arith)
+size_8 (suc (suc (suc (suc zero)))) l = absurd (omega arith)
+size_8 (suc (suc (suc (suc (suc zero))))) l = absurd (omega arith)
+size_8 (suc (suc (suc (suc (suc (suc zero)))))) l = absurd (omega arith)
+size_8 (suc (suc (suc (suc (suc (suc (suc zero))))))) l = refl
+size_8 (suc (suc (suc (suc (suc (suc (suc (suc n)))))))) l = ap size_in (row_past (suc (suc (suc (suc (suc (suc (suc (suc n)))))))) (omega arith))

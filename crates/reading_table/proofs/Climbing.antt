@@ -71,6 +71,12 @@ module _ (p : List ℕ) where
       (le_trans (volts_of p i) (volts_of p (n - 1)) (pos 80000) (upto n c i (n - 1) (omega (arith, h)) (omega (arith, h))) (range_high (volts_of p (n - 1)) b))
 
   -- for code: what a walk to the end says, and each way to stop
+  pub all_climb : (i : ℕ) → knots p ≤ i → in_range (volts_of p 0) ≡ true → in_range (volts_of p (knots p - 1)) ≡ true → Climbs p i → true ≡ rising_of p
+  unfolding Rising Climbs
+  all_climb i l a b c =
+      let d : Climbs p (knots p) = (λ k h. c k (omega (arith, h, l))) in
+      sym (rising_if p (within (knots p) d (holds a) (holds b), λ k h. c k (omega (arith, h, l))))
+
   no_rise : (rising_of p ≡ true → ⊥) → false ≡ rising_of p
   no_rise h = go (rising_of p) refl
     where

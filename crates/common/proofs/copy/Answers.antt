@@ -1,12 +1,12 @@
--- `common::copy` meets its contract: each piece, and the rest behind them, is laid next.
+-- `common::copy` meets its contract: each piece, and each byte behind them, is laid next.
 use mathlib.Core.Path.{◌≡◌, ap, ◌∙◌}
 use mathlib.Core.List.{List}
 use Prim.Native.Nat.{ℕ, ◌+◌, ◌-◌, ◌*◌, ◌%◌, ◌≤◌}
 use native.Mathlib.Omega.{arith}
-use lib.ListN.{length}
+use lib.ListN.{length, get_or, set}
 use borrow.Rule.Slice.PartMut.{put_mid, mid_of}
 use Rattle.common.specs.Lists.{overwritten}
-use Rattle.common.proofs.Lists.{copied_least}
+use Rattle.common.proofs.Lists.{copied_least, overwritten_more}
 use Rattle.common.proofs.Pieces.{overwritten_piece}
 use Rattle.common.proofs.copy.Goals as goal
 
@@ -23,16 +23,22 @@ loop-k-preserved c =
     ∙ overwritten_piece s d a (a + 512) (omega arith) e
     ∙ ap (λ (m : ℕ). overwritten m s d) n
 
+pub loop-i-init : goal.loop-i-init
+loop-i-init c =
+    let l = c.loop-k in
+    let w : 512 * l.k ≡ c.least-n.result - c.least-n.result % 512 = omega arith in
+    l.invariant ∙ ap (λ (m : ℕ). overwritten m c.args.src.now c.args.dst.now) w
+
+pub loop-i-preserved : goal.loop-i-preserved
+loop-i-preserved c =
+    let l = c.loop-i in
+    let a = c.args in
+    ap (λ (x : List ℕ). set x l.i (get_or a.src.now l.i 0)) l.invariant ∙ overwritten_more a.src.now a.dst.now l.i (omega arith) (omega arith)
+
 pub returns : goal.returns
 returns c =
-    let l = c.loop-k in
+    let l = c.loop-i in
     let s = c.args.src.now in
     let d = c.args.dst.now in
-    let n = c.least-n.result in
-    let a = n - n % 512 in
-    let w : 512 * l.k ≡ a = omega arith in
-    ap (put_mid a (n - a) l.dst) c.copy_from_slice.ensures.after
-    ∙ ap (λ (x : List ℕ). put_mid a (n - a) x (mid_of a (n - a) s)) (l.invariant ∙ ap (λ (m : ℕ). overwritten m s d) w)
-    ∙ overwritten_piece s d a n (omega arith) (omega arith)
-    ∙ ap (λ (m : ℕ). overwritten m s d) c.least-n.ensures
-    ∙ copied_least d s
+    let w : l.i ≡ c.least-n.result = omega arith in
+    l.invariant ∙ ap (λ (m : ℕ). overwritten m s d) (w ∙ c.least-n.ensures) ∙ copied_least d s
