@@ -126,8 +126,9 @@ def sides(words):
 
 
 def functions_in(text):
-    """Name and contract of each public function of a source, of each method of a public trait and of each public one of a type itself: the
-    lines from its `fn` to the one that opens its body or, in a trait, ends the promise. What a type does for a trait has the promise there."""
+    """Name and contract of each public function of a source, of each method of a public trait and of each public one of a type itself:
+    the lines from its `fn` to the one that opens its body or, in a trait, ends the promise. What a type does for a trait has the promise
+    there."""
     name, lines, block = None, [], ""
     for line in text.split("\n"):
         if line[:1].strip():
